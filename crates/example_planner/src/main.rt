@@ -13,7 +13,14 @@
 //! A time is a number, of minutes where the hours matter. Any other line is answered by `bad line`, also one that is not UTF-8.
 #![tactic(auto)]
 
+ghost use Rattle.std.specs.Prelude.{◌≡◌, ◌==◌, true, OnOk};
+ghost use Rattle.std.specs.List.{list_any};
+ghost use Rattle.iddqd_ord.specs.Items.{items};
+
+mod book;
+mod calendar;
 mod clock;
+mod files;
 mod planner;
 mod terms;
 
@@ -64,13 +71,16 @@ fn show(rt: &impl Print, found: Option<&Step>) -> io::Result<()> {
     }
 }
 
-/// Books a step. If there is no memory for it, the error says so, and the program ends.
+/// Books a step. If there is no memory for it, the error says so, and the program ends. So a step is due at that time once
+/// the line is answered.
 fn answer_book(
     rt: &(impl Print + AllocGlobal),
     steps: &mut IdOrdMap<Step>,
     due: u64,
     name: &str,
-) -> io::Result<()> {
+) -> io::Result<()>
+    ensures there { OnOk result (list_any (λ s. s.due == due) (items steps.new) ≡ true) }
+{
     let step = Step {
         due,
         name: name.to_string(rt.alloc())?,

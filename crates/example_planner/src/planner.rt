@@ -48,14 +48,14 @@ pub fn at(steps: &IdOrdMap<Step>, time: u64) -> Option<&Step>
 pub fn next_due(steps: &IdOrdMap<Step>, time: u64) -> Option<&Step>
     ensures { option_copied result ≡ slice_get (filter (λ s. nat_le time s.due) (items steps.now)) 0 }
 {
-    steps.range::<&u64, _>(&time..).next()
+    steps.range(&time..).next()
 }
 
 /// Goes over the steps that are due from a time on and before another one, the earliest first.
 pub fn between(steps: &IdOrdMap<Step>, from: u64, before: u64) -> Iter<'_, Step>
     ensures { result ≡ filter (λ s. nat_le from s.due && nat_lt s.due before) (items steps.now) }
 {
-    steps.range::<&u64, _>(&from..&before)
+    steps.range(&from..&before)
 }
 
 /// Removes the step that is due at this time, and returns it, if there is one.

@@ -5,9 +5,10 @@ use Rattle.std.specs.Ordering.{is_lt, is_gt}
 use Rattle.std.specs.declared.cmp.Ordering.{Ordering}
 use Rattle.std.specs.declared.cmp.Ordering.TheVariants.{Less, Equal, Greater}
 use Rattle.std.proofs.lemmas.List.{length-append}
-use Rattle.iddqd_ord.specs.Puts.{ExtendsTo}
+use Rattle.iddqd_ord.specs.Puts.{ExtendsTo, puts}
 use Rattle.iddqd_ord.specs.Inserts.{Overwrites}
-use Rattle.iddqd_ord.specs.Items.{OrdMap, items, put, Gains}
+use Rattle.iddqd_ord.specs.Items.{items, put, Gains}
+use Rattle.iddqd_order.specs.Row.{Order}
 use Rattle.iddqd_ord.specs.declared.item.IdOrdItem as item
 
 pub fold-push : {A B : Type 0} (f : B → A → B) (b : B) (xs : List A) (x : A) → fold f b (xs ++ x ∷ []) ≡ f (fold f b xs) x
@@ -31,33 +32,42 @@ module _ {T Key : Type 0} (of : item.Ghosts T Key) (cmp : Key → Key → Orderi
   length-put xs x =
       omega (arith, parts x xs, length-append (filter (λ y. is_lt (cmp (of.key y) (of.key x))) xs) (x ∷ filter (λ y. is_gt (cmp (of.key y) (of.key x))) xs))
 
-  pub ExtendsTo-push : {old now new : OrdMap T} {xs : List T} {x : T} → ExtendsTo of cmp old xs now → Overwrites of cmp now x new → ExtendsTo of cmp old (xs ++ x ∷ []) new
+  -- a list that is put brings no more items than it has
+  length-puts : (xs ys : List T) → length (puts of cmp xs ys) ≤ length xs + length ys
+  length-puts xs [] = omega arith
+  length-puts xs (y ∷ ys) = omega (arith, length-puts (put of cmp xs y) ys, length-put xs y)
+
+  pub ExtendsTo-push : {old now new : Order T} {xs : List T} {x : T} → ExtendsTo of cmp old xs now → Overwrites of cmp now x new → ExtendsTo of cmp old (xs ++ x ∷ []) new
   ExtendsTo-push {old} {now} {new} {xs} {x} so_far done = record {
     lists = done.lists ∙ (ap (λ l. put of cmp l x) so_far.lists ∙ sym (fold-push (put of cmp) (items old) xs x));
     fits = done.fits;
     no_less_room = omega (arith, so_far.no_less_room, done.no_less_room);
+    same_room = λ room.
+        (let longer = length-append xs (x ∷ []) in
+        let same : now.capacity ≡ old.capacity = so_far.same_room (omega (arith, longer, room)) in
+        done.same_room (omega (arith, ap length so_far.lists, length-puts (items old) xs, longer, room, same)) ∙ same);
   }
 
 -- The capacity of a map stays, and so many more items fit, if `certain` holds.
-pub record HasRoomOn {T : Type 0} (certain : Type 0) (left : ℕ) (old now : OrdMap T) : Type 0 where
+pub record HasRoomOn {T : Type 0} (certain : Type 0) (left : ℕ) (old now : Order T) : Type 0 where
   pub fits : certain → length (items now) + left ≤ now.capacity
   pub same_room : certain → now.capacity ≡ old.capacity
 
-module _ {T : Type 0} {certain : Type 0} {left : ℕ} {old now : OrdMap T} (so_far : HasRoomOn certain left old now) (next : ℕ) (nearer : next < left) where
+module _ {T : Type 0} {certain : Type 0} {left : ℕ} {old now : Order T} (so_far : HasRoomOn certain left old now) (next : ℕ) (nearer : next < left) where
   -- one of the items that are left comes: the map is not full
   pub full_not : certain → length (items now) ≡ now.capacity → ⊥
   full_not fit full = omega (arith, so_far.fits fit, full, nearer)
 
-  pub HasRoomOn-more : (new : OrdMap T) → length (items new) ≤ suc (length (items now)) → (length (items now) < now.capacity → new.capacity ≡ now.capacity) → HasRoomOn certain next old new
+  pub HasRoomOn-more : (new : Order T) → length (items new) ≤ suc (length (items now)) → (length (items now) < now.capacity → new.capacity ≡ now.capacity) → HasRoomOn certain next old new
   HasRoomOn-more new few same = record {
     fits = λ fit. omega (arith, so_far.fits fit, few, nearer, same (omega (arith, so_far.fits fit, nearer)));
     same_room = λ fit. same (omega (arith, so_far.fits fit, nearer)) ∙ so_far.same_room fit;
   }
 
-  pub HasRoomOn-overwrites : {Key : Type 0} {of : item.Ghosts T Key} {cmp : Key → Key → Ordering} {x : T} {new : OrdMap T} → Overwrites of cmp now x new → HasRoomOn certain next old new
+  pub HasRoomOn-overwrites : {Key : Type 0} {of : item.Ghosts T Key} {cmp : Key → Key → Ordering} {x : T} {new : Order T} → Overwrites of cmp now x new → HasRoomOn certain next old new
   HasRoomOn-overwrites {of = of} {cmp = cmp} {x = x} {new = new} done =
       HasRoomOn-more new (rw done.lists (length-put of cmp (items now) x)) done.same_room
 
-  pub HasRoomOn-gains : {Key : Type 0} {of : item.Ghosts T Key} {cmp : Key → Key → Ordering} {x : T} {new : OrdMap T} → Gains of cmp now x new → HasRoomOn certain next old new
+  pub HasRoomOn-gains : {Key : Type 0} {of : item.Ghosts T Key} {cmp : Key → Key → Ordering} {x : T} {new : Order T} → Gains of cmp now x new → HasRoomOn certain next old new
   HasRoomOn-gains {of = of} {cmp = cmp} {x = x} {new = new} done =
       HasRoomOn-more new (rw done.lists (length-put of cmp (items now) x)) done.same_room

@@ -1,14 +1,14 @@
 -- An item that a query seeks goes where the search for it ended, and a second search does not miss it.
-use Rattle.std.proofs.Common.{◌≡◌, ℕ, ◌<◌, ◌≤◌, true, List, Some, length, get_or, refl, sym, ap, ◌∙◌, arith, inl, inr}
+use Rattle.std.proofs.Common.{◌≡◌, ℕ, ◌≤◌, true, List, Some, length, get_or, refl, sym, ap, ◌∙◌, arith}
 use Rattle.std.specs.Prelude.{slice_get}
 use Rattle.std.specs.List.{insert}
 use Rattle.std.specs.Cmp.{IsTotalOrder}
 use Rattle.std.specs.Ordering.{ordering_reverse, is_eq}
 use Rattle.std.specs.declared.cmp.Ordering.{Ordering}
 use Rattle.std.specs.declared.cmp.Ordering.TheVariants.{Less, Equal, Greater}
-use Rattle.std.proofs.lemmas.Bool.{cases_lt, false≢true}
+use Rattle.std.proofs.lemmas.Bool.{false≢true}
 use Rattle.std.proofs.lemmas.List.Edits.{length-insert, get_or-insert_at}
-use Rattle.std.proofs.lemmas.Option.{slice_get-get_or, get_or_from_slice_get, slice_get_within}
+use Rattle.std.proofs.lemmas.Option.{slice_get-get_or}
 use Rattle.iddqd_ord.specs.Ordered.{IsRising, IsSplit}
 
 pub from_eq : (r : Ordering) → is_eq r ≡ true → r ≡ Equal
@@ -42,23 +42,3 @@ module _ {T K : Type 0} {cmp : K → K → Ordering} (o : IsTotalOrder cmp) (key
 pub inserted_there : {T : Type 0} (xs ys : List T) (i : ℕ) (x : T) → i ≤ length xs → ys ≡ insert xs i x → slice_get ys i ≡ Some x
 inserted_there xs ys i x le is =
     ap (λ (q : List _). slice_get q i) is ∙ slice_get-get_or (insert xs i x) i x (omega (arith, le, length-insert xs i x le)) ∙ ap Some (get_or-insert_at xs i x x le)
-
-module _ {T : Type 0} (compare : T → Ordering) (x : T) (here : compare x ≡ Equal) (ys : List T) (i p : ℕ) (there : slice_get ys i ≡ Some x) where
-  read : get_or ys i x ≡ x
-  read = get_or_from_slice_get ys i x x there
-
-  within : i < length ys
-  within = slice_get_within ys i x there
-
-  not_lower : (compare (get_or ys i x) ≡ Less) → ⊥
-  not_lower e = false≢true (ap is_eq (sym e ∙ ap compare read ∙ here))
-
-  not_higher : (compare (get_or ys i x) ≡ Greater) → ⊥
-  not_higher e = false≢true (ap is_eq (sym e ∙ ap compare read ∙ here))
-
-  -- a second search does not miss it
-  pub found_not_gap : IsSplit compare ys p 0 → ⊥
-  found_not_gap s = elim (cases_lt i p) [
-    | inl low ↦ not_lower (s.below i x low)
-    | inr high ↦ not_higher (s.above i x (omega (arith, high)) within)
-  ]

@@ -1,8 +1,7 @@
 -- Going over a list in turn, where each step keeps an element or removes it.
-use Rattle.std.proofs.Common.{◌≡◌, ℕ, zero, suc, ◌+◌, ◌<◌, ◌≤◌, Bool, true, false, List, [], ◌∷◌, ◌++◌, length, get_or, take, drop, refl, sym, ap, subst, ◌∙◌, arith, add-one, append_assoc}
+use Rattle.std.proofs.Common.{◌≡◌, ℕ, zero, suc, ◌+◌, ◌<◌, ◌≤◌, Bool, true, false, List, [], ◌∷◌, ◌++◌, length, get_or, take, drop, refl, sym, ap, subst, ◌∙◌, add-one, append_assoc}
 use Rattle.std.specs.List.{remove}
 use Rattle.std.specs.List.Retain.{IsFiltered}
-use Rattle.std.specs.Prelude.{filter_map, Option, Some, None}
 use Rattle.std.proofs.lemmas.List.{append-nil, drop_more, drop_all, take_all, take_more}
 use Rattle.iddqd_store.proofs.SlotLemmas.Next.{filtered_on, filtered_none}
 
@@ -20,14 +19,6 @@ take-removed [] zero = refl
 take-removed [] (suc i) = refl
 take-removed (x ∷ xs) zero = refl
 take-removed (x ∷ xs) (suc i) = ap (λ l. x ∷ l) (take-removed xs i)
-
-pub length-filter_map : {A B : Type 0} (f : A → Option B) (xs : List A) → length (filter_map f xs) ≤ length xs
-length-filter_map f [] = omega arith
-length-filter_map {A} {B} f (x ∷ xs) = by_result (f x) refl (length-filter_map f xs)
-  where
-    by_result : (o : Option B) → f x ≡ o → length (filter_map f xs) ≤ length xs → length (filter_map f (x ∷ xs)) ≤ length (x ∷ xs)
-    by_result None is more = rw is (omega arith)
-    by_result (Some y) is more = rw is (omega arith)
 
 pub drop_here : {T : Type 0} (xs : List T) (at : ℕ) (x : T) → at < length xs → x ≡ get_or xs at x → drop at xs ≡ x ∷ drop (at + 1) xs
 drop_here {T} xs at x lt is = drop_more xs at x lt ∙ ap (λ (y : T). y ∷ drop (at + 1) xs) (sym is)

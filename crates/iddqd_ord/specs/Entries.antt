@@ -1,16 +1,17 @@
 -- What contracts say of entries. In the examples an item is a number, which is its key.
-use Rattle.std.specs.Prelude.{◌≡◌, ◌<◌, ℕ, Bool, true, [], length, Option, Some, None, slice_get, slice_set, ⊤, Result, IsOk, IfOk, IfErr, OnOk}
+use Rattle.std.specs.Prelude.{◌≡◌, ◌<◌, ℕ, Bool, true, [], length, Option, Some, None, slice_get, slice_set, ⊤, Result, Ok, Err, IsOk, IfOk, IfErr, OnOk}
 use Rattle.std.specs.Borrow.{Fml, GName, Lends, RattleType, MutBor, RestsIfErr, follows}
 use Rattle.std.specs.BTreeMap.Lent.{OrdMembers}
 use Rattle.std.specs.declared.cmp.Ord as ord
 use Rattle.std.specs.declared.cmp.PartialEq as equal
 use Rattle.std.specs.declared.cmp.PartialOrd as partial
 use mir.Syntax.{named}
-use Rattle.iddqd_ord.specs.Items.{OrdMap, items, has, Gains}
+use Rattle.iddqd_ord.specs.Items.{items, has, Gains}
 use Rattle.iddqd_ord.specs.Mismatch.{HandsBack}
-use Rattle.iddqd_ord.specs.Lent.{map_row, map_with}
+use Rattle.iddqd_ord.specs.Lent.{map_row}
+use Rattle.iddqd_ord.specs.Writing.{map_with}
 use Rattle.iddqd_ord.specs.RefMuts.{ref_item, ref_lender, ref_map}
-use Rattle.iddqd_ord.specs.Row.{position, HasSlot}
+use Rattle.iddqd_order.specs.Row.{Order, position, HasEntry}
 use Rattle.iddqd_ord.specs.declared.item.IdOrdItem as item
 use Rattle.iddqd_ord.specs.declared.query.OrdQuery as query
 use Rattle.iddqd_ord.specs.declared.entry.Entry.{Entry}
@@ -18,14 +19,30 @@ use Rattle.iddqd_ord.specs.declared.entry.Entry.TheVariants.{Vacant, Occupied}
 use Rattle.iddqd_ord.specs.declared.entry.VacantEntry.{VacantEntry}
 use Rattle.iddqd_ord.specs.declared.entry.OccupiedEntry.{OccupiedEntry}
 use Rattle.iddqd_ord.specs.declared.error.EntryRefusal.{EntryRefusal}
+use Rattle.iddqd_ord.specs.declared.error.EntryError.{EntryError}
+use Rattle.iddqd_ord.specs.declared.entry.try_error.TryEntryError.{TryEntryError}
+use Rattle.iddqd_ord.specs.declared.entry.try_error.TryEntryError.TheVariants.{Closure, Insert}
+use Rattle.iddqd_ord.specs.declared.entry.try_error.TryEntryRefusal.{TryEntryRefusal}
 use Rattle.iddqd_ord.specs.declared.ref_mut.RefMut.{RefMut}
 use Rattle.iddqd_ord.specs.contracts.entry.OccupiedEntry.{the_row as occupied_row}
 use Rattle.iddqd_ord.specs.contracts.map.IdOrdMap.{the_row as ord_row}
 
+-- The error is that of the entry, and `P` holds for that error.
+-- Example: It does not hold for `Closure e`.
+abbrev pub IsInsert : {T E : Type 0} → TryEntryError (EntryError T) E → (EntryError T → Type 0) → Type 0
+IsInsert (Closure e) P = ⊥
+IsInsert (Insert error) P = P error
+
+-- The call failed because the closure failed, and returns the closure's error.
+-- Example: If the closure returned `Err e`, the error is `Closure e`.
+abbrev pub FailsAsClosure : {T Key E M : Type 0} → E → Result M (TryEntryRefusal T E Key) → Type 0
+FailsAsClosure error (Ok m) = ⊥
+FailsAsClosure error (Err refusal) = refusal.error ≡ Closure error
+
 module _ {T Key : Type 0} where
   -- The entry has an item. The calls that make an entry ensure it.
   abbrev pub HasItem : OccupiedEntry T Key → Type 0
-  HasItem o = HasSlot o.map.now.blocks o.place
+  HasItem o = HasEntry o.map.now.blocks o.place
 
   -- `found_index` is the index of the entry's item in the list of the items.
   -- Example: In a map of 3, 5 it is 1 for the entry of 5.
@@ -93,13 +110,29 @@ module _ {T Q Key : Type 0} {of : item.Ghosts T Key} {order : ord.Ghosts Key} {e
       pub unchanged : IfErr result (λ refusal. refusal.map.now ≡ v.map.now)
       pub hands_back : IfErr result (λ refusal. HandsBack of order.cmp wanted v.map.now x refusal.error)
 
+    -- The item `x`, which a closure made, was inserted into the map of the vacant entry and is lent (`GainsAndLends`), or the
+    -- error is that of the entry and returns it (`HandsBack`). The call succeeds if `x` has the key of the entry and the map
+    -- is not full.
+    -- Example: If `x` has another key than the entry, the error is `Insert (Key x)`.
+    pub record PutsMadeIn {E : Type 0} (x : T) (result : Result (RefMut T Key of order eq some_order) (TryEntryRefusal T E Key)) : Type 0 where
+      pub gains_and_lends : IfOk result (GainsAndLends x)
+      pub same_key : OnOk result (wanted x ≡ true)
+      pub granted : wanted x ≡ true → length (items v.map.now) < v.map.now.capacity → IsOk result
+      pub hands_back : IfErr result (λ refusal. IsInsert refusal.error (HandsBack of order.cmp wanted v.map.now x))
+
+    -- The item that the closure made is inserted (`PutsMadeIn`), or the closure's error is returned (`FailsAsClosure`).
+    -- Example: If it returned `Ok x`, and `x` has the key of the entry, then `x` is in the map unless that was full.
+    abbrev pub PutsInMade : {E : Type 0} → Result T E → Result (RefMut T Key of order eq some_order) (TryEntryRefusal T E Key) → Type 0
+    PutsInMade (Ok x) result = PutsMadeIn x result
+    PutsInMade (Err error) result = FailsAsClosure error result
+
   -- `entry_lender` is the name of the entry's reference to the map.
   abbrev pub entry_lender : Entry T Q Key of order eq some_order q → GName
   entry_lender (Vacant v) = v.map.ghost_name
   entry_lender (Occupied o) = o.map.ghost_name
 
   -- `entry_map` is the map of the entry.
-  abbrev pub entry_map : Entry T Q Key of order eq some_order q → OrdMap T
+  abbrev pub entry_map : Entry T Q Key of order eq some_order q → Order T
   entry_map (Vacant v) = v.map.now
   entry_map (Occupied o) = o.map.now
 
@@ -114,6 +147,12 @@ module _ {T Q Key : Type 0} {of : item.Ghosts T Key} {order : ord.Ghosts Key} {e
   abbrev pub OnVacant : Entry T Q Key of order eq some_order q → (VacantEntry T Q Key of order eq some_order q → Type 0) → Type 0
   OnVacant (Vacant v) P = P v
   OnVacant (Occupied o) P = ⊤
+
+  -- The entry is occupied.
+  -- Example: It holds for an entry of 5.
+  abbrev pub IsOccupied : Entry T Q Key of order eq some_order q → Type 0
+  IsOccupied (Vacant v) = ⊥
+  IsOccupied (Occupied o) = ⊤
 
   -- If the entry is occupied, then `P` holds for it.
   -- Example: The word holds for any vacant entry.
@@ -146,5 +185,5 @@ module _ (T Key : RattleType) (of : item.Ghosts T.Denot Key.Denot) (keys : OrdMe
 module _ (T Key : RattleType) {of : item.Ghosts T.Denot Key.Denot} {order : ord.Ghosts Key.Denot} {eq : equal.Ghosts Key.Denot} {some_order : partial.Ghosts Key.Denot} where
   -- If the call failed, the map ends as it was. Otherwise it ends as the guard leaves it.
   -- Example: After an error a map of 3, 5 ends as 3, 5.
-  abbrev pub rests_if_err : {E : Type 0} → MutBor (OrdMap T.Denot) → Result (RefMut T.Denot Key.Denot of order eq some_order) E → Fml
+  abbrev pub rests_if_err : {E : Type 0} → MutBor (Order T.Denot) → Result (RefMut T.Denot Key.Denot of order eq some_order) E → Fml
   rests_if_err m r = RestsIfErr (ord_row T Key of order eq some_order) m ref_lender r (λ n. n ≡ m.now)

@@ -1,31 +1,23 @@
 -- What a contract sees of a map in the order of its keys. In the examples an item is a number, which is its key.
-use Rattle.std.specs.Prelude.{◌≡◌, ℕ, ◌+◌, ◌<◌, ◌≤◌, Bool, true, false, ◌&&◌, List, ◌∷◌, ◌++◌, Option, filter, length, refl, Result, OnOk, OnErr}
-use Rattle.std.specs.List.{concat, list_any}
-use Rattle.std.specs.Coded.{Coded, code_by, coded×, coded_ℕ, coded_list, coded_option}
+use Rattle.std.specs.Prelude.{◌≡◌, ℕ, ◌+◌, ◌*◌, ◌<◌, ◌≤◌, max, Bool, true, false, ◌&&◌, List, ◌∷◌, ◌++◌, filter, length, Result, OnOk, OnErr}
+use Rattle.std.specs.List.{list_any}
 use Rattle.std.specs.Ordering.{is_lt, is_eq, is_gt, is_le, is_ge}
 use Rattle.std.specs.declared.cmp.Ordering.{Ordering}
 use Rattle.std.specs.declared.ops.Bound.{Bound}
 use Rattle.std.specs.declared.ops.Bound.TheVariants.{Included, Excluded, Unbounded}
-use Rattle.iddqd_store.specs.Slots.Found.{items_at}
+use Rattle.iddqd_order.specs.Row.{Order, line}
 use Rattle.iddqd_ord.specs.declared.item.IdOrdItem as item
 
--- Contracts see a map as the slots of its items, the blocks that list the slots in the order of the keys, and how many
--- items fit. Public clauses cite the slots and the blocks only as `items`.
--- Example: The slots `Some 5`, `None`, `Some 3`, the one block 2, 0, and the capacity 4.
-pub record OrdMap (T : Type 0) : Type 0 where
-  pub slots : List (Option T)
-  pub blocks : List (List ℕ)
-  pub capacity : ℕ
-
-abbrev pub map_code : {T : Type 0} → Coded T → Coded (OrdMap T)
-map_code {T} code =
-    code_by (List (Option T) × (List (List ℕ) × ℕ)) (coded× (coded_list (coded_option code)) (coded× (coded_list (coded_list coded_ℕ)) coded_ℕ))
-    (λ m. (m.slots, (m.blocks, m.capacity))) (λ p. record { slots = p.0; blocks = p.1.0; capacity = p.1.1 }) (λ _. refl)
+-- Contracts see a map as the blocks in which its items stand, and how many items fit. Public clauses cite the blocks only as
+-- `items`.
+-- Example: The one block 3, 5, and the capacity 4.
+abbrev pub OrdMap : Type 0 → Type 0
+OrdMap T = Order T
 
 -- `items` lists the items of the map in ascending order of their keys.
--- Example: For the slots `Some 5`, `None`, `Some 3` and the block 2, 0 it is 3, 5.
-abbrev pub items : {T : Type 0} → OrdMap T → List T
-items m = items_at m.slots (concat m.blocks)
+-- Example: For the blocks [3], [5] it is 3, 5.
+abbrev pub items : {T : Type 0} → Order T → List T
+items m = line m.blocks
 
 module _ {T Key : Type 0} (of : item.Ghosts T Key) where
   -- `sought` compares the key of an item with what a query seeks.
@@ -54,10 +46,11 @@ module _ {T Key : Type 0} (of : item.Ghosts T Key) where
     abbrev pub put : List T → T → List T
     put xs x = filter (λ y. is_lt (cmp (of.key y) (of.key x))) xs ++ x ∷ filter (λ y. is_gt (cmp (of.key y) (of.key x))) xs
 
-    -- The map has the item besides those that it had, and they fit. The capacity grows only if the map was full.
-    -- Example: A map of 3, 5 with the capacity 4 gains 4, and has 3, 4, 5 and the capacity 4 then.
+    -- The map has the item besides all that it had, and they fit. The capacity grows only if the map was full.
+    -- Example: A map of 3, 5 with the capacity 4 gains 4, and has 3, 4, 5 and the capacity 4 then. It cannot gain another 5.
     pub record Gains (old : OrdMap T) (x : T) (new : OrdMap T) : Type 0 where
       pub lists : items new ≡ put (items old) x
+      pub more : length (items new) ≡ length (items old) + 1
       pub no_less_room : old.capacity ≤ new.capacity
       pub same_room : length (items old) < old.capacity → new.capacity ≡ old.capacity
       pub fits : length (items new) ≤ new.capacity
@@ -88,11 +81,18 @@ module _ {T Key : Type 0} (of : item.Ghosts T Key) where
   within compare low high x = is_from compare low x && is_to compare high x
 
 -- After `Ok`, `more` items fit beside those that are there. The call fails only if they did not fit before it. The
--- capacity grows only if they did not fit.
+-- capacity grows only if they did not fit, and then to no more than is asked for, or twice what it was, or 4.
 -- Example: With 3 items and the capacity 7, 4 more fit and nothing changes, and for 5 more the capacity has to be 8 at
--- least.
+-- least, and 14 at most.
 pub record MakesRoom {T A E : Type 0} (old : OrdMap T) (more : ℕ) (result : Result A E) (new : OrdMap T) : Type 0 where
   pub room : OnOk result (length (items old) + more ≤ new.capacity)
   pub reason : OnErr result (old.capacity < length (items old) + more)
   pub no_less_room : old.capacity ≤ new.capacity
   pub same_room : length (items old) + more ≤ old.capacity → new.capacity ≡ old.capacity
+  pub most : new.capacity ≤ max (length (items old) + more) (max (2 * old.capacity) 4)
+
+-- The capacity stays, or if `certain` does not hold, it may grow.
+-- Example: `certain` may say that as many items fit as an iterator gives at most.
+pub record GrowsUnless {T : Type 0} (certain : Type 0) (old new : OrdMap T) : Type 0 where
+  pub no_less_room : old.capacity ≤ new.capacity
+  pub same_room : certain → new.capacity ≡ old.capacity

@@ -1,5 +1,8 @@
+pub mod Batches
+pub mod Between
 pub mod Calls
 pub mod Entries
+pub mod Extracting
 pub mod InsertErrors
 pub mod Inserts
 pub mod Items
@@ -8,10 +11,12 @@ pub mod Lent
 pub mod Mismatch
 pub mod Ordered
 pub mod Puts
+pub mod Queries
 pub mod RefMuts
 pub mod Rekeyed
-pub mod Row
 pub mod Updates
+pub mod Walks
+pub mod Writing
 -- The clauses of the map cite these words of the store.
 pub use Rattle.iddqd_store.specs.Bag
 pub use Rattle.iddqd_store.specs.Bag.Building

@@ -1,16 +1,19 @@
 //! Entries: what a lookup found, with a borrow of the map.
 ghost use Rattle.iddqd_ord.specs.Items.{items, sought};
 ghost use Rattle.iddqd_ord.specs.Ordered.{IsSplit};
-ghost use Rattle.iddqd_ord.specs.Row.{position, IsPlace};
+ghost use Rattle.iddqd_order.specs.Row.{position, IsPlace};
 
 use crate::item::IdOrdItem;
 use crate::map::IdOrdMap;
 use crate::query::OrdQuery;
-use crate::slot_order::Place;
+use iddqd_order::Place;
 
 mod all;
 mod occupied;
+mod try_error;
 mod vacant;
+
+pub use try_error::{TryEntryError, TryEntryRefusal};
 
 /// What `entry` found: a vacant entry or an occupied one. It borrows the map.
 #[derive(Drop)]
@@ -22,7 +25,7 @@ pub enum Entry<'a, T: IdOrdItem, Q: OrdQuery<T::Key> = &'a <T as IdOrdItem>::Key
 }
 
 /// An entry with a key that no item of the map has. It keeps the place at which the search for it ended, so that an
-/// insert need not search for that place again.
+/// insert searches for nothing.
 #[derive(Drop)]
 pub struct VacantEntry<'a, T: IdOrdItem, Q: OrdQuery<T::Key> = &'a <T as IdOrdItem>::Key> {
     pub(crate) map: &'a mut IdOrdMap<T>,

@@ -9,30 +9,35 @@
 //! ```
 #![tactic(auto)]
 
+mod cursor;
 mod debug;
 mod entry;
 mod error;
 mod into_iter;
 mod item;
-mod iter;
 mod iter_mut;
+mod made;
 mod map;
 mod pointers;
 mod query;
 mod ref_mut;
-mod slot_order;
 
-pub use entry::{Entry, OccupiedEntry, VacantEntry};
+pub use cursor::Cursor;
+pub use entry::{Entry, OccupiedEntry, TryEntryError, TryEntryRefusal, VacantEntry};
 pub use error::{
-    EntryError, EntryRefusal, ExtendUniqueError, InsertError, KeyMismatch, NotReplaced, Rejected,
+    EntryError, EntryRefusal, ExtendUniqueError, FromIterError, InsertError, KeyMismatch,
+    NotReplaced, Rejected,
 };
-pub use into_iter::IntoIter;
+pub use iddqd_order::{IntoIter, Iter};
 pub use item::{IdOrdItem, IdOrdItemMut};
-pub use iter::Iter;
 pub use iter_mut::IterMut;
+pub use made::{InOrder, KeyOrder, WithKeys, WithMadeKeys};
 pub use map::{ClonesKeys, IdOrdMap};
-pub use query::OrdQuery;
+pub use query::{First, FirstTwo, OrdQuery, OrdRange, OrdSeek, Prefix};
 pub use ref_mut::RefMut;
 
 // Types of `iddqd_store` that the signatures of this crate name.
-pub use iddqd_store::{InsertReason, MemoryRefused, TryReserveError};
+pub use iddqd_store::{
+    ByMade, ByPair, DuplicateItem, Holds, InsertReason, LendsPair, Made, MakesKey, MemoryRefused,
+    TryReserveError,
+};

@@ -1,11 +1,11 @@
 //! Inserting an item through a vacant entry.
 ghost use Rattle.std.specs.Prelude.{◌≡◌, ◌<◌, true, length, IsOk, IfOk, IfErr, OnOk};
 ghost use Rattle.std.specs.Borrow.{sem};
-ghost use Rattle.iddqd_ord.specs.Entries.{GainsAndFinds, GainsAndLends, PutsIn, wanted, rests_if_err};
+ghost use Rattle.iddqd_ord.specs.Entries.{GainsAndFinds, GainsAndLends, PutsIn, PutsInMade, wanted, rests_if_err};
 ghost use Rattle.iddqd_ord.specs.Items.{items};
 ghost use Rattle.iddqd_ord.specs.Mismatch.{HandsBack};
 
-use super::{OccupiedEntry, VacantEntry};
+use super::{OccupiedEntry, TryEntryError, TryEntryRefusal, VacantEntry};
 use crate::error::{EntryError, EntryRefusal};
 use crate::item::IdOrdItem;
 use crate::query::OrdQuery;
@@ -17,9 +17,8 @@ impl<'a, T: IdOrdItem, Q: OrdQuery<T::Key>> VacantEntry<'a, T, Q> {
     /// If the item has another key, the error says that its key is not the entry's. Otherwise the call fails only if the
     /// map is full and there is no memory to grow. Each error has the item, and the map is as it was.
     ///
-    /// The call compares the item's key with the entry's. After it has inserted the item it searches for its place, which
-    /// among fewer than `2 ^ i` items, the new one included, compares at most `i + 3` keys. It allocates memory only if the
-    /// map is full.
+    /// The call compares the item's key with the entry's, and no others: the entry knows where the item goes. It asks for
+    /// memory where the block that the item goes to is full. Below the capacity it does not fail if there is none.
     pub fn insert(self, item: T) -> Result<RefMut<'a, T>, EntryError<T>>
         // The guard borrows the item, in this very map.
         ensures gains_and_lends { IfOk result (GainsAndLends self.entry item) }
@@ -37,7 +36,8 @@ impl<'a, T: IdOrdItem, Q: OrdQuery<T::Key>> VacantEntry<'a, T, Q> {
         Ok(RefMut { map, place })
     }
 
-    /// Inserts an item as `insert` does, and returns the occupied entry of that item. The error borrows the map.
+    /// Inserts an item as `insert` does, and returns the occupied entry of that item. The error borrows the map. The call costs
+    /// what `insert` costs.
     pub fn insert_entry(self, item: T) -> Result<OccupiedEntry<'a, T>, EntryRefusal<'a, T>>
         // The entry borrows this very map, with the item in it, which the entry has.
         ensures gains_and_finds { IfOk result (GainsAndFinds self.entry item) }
@@ -69,6 +69,33 @@ impl<'a, T: IdOrdItem, Q: OrdQuery<T::Key>> VacantEntry<'a, T, Q> {
         match map.insert_free(item, query, place) {
             Ok(place) => Ok(RefMut { map, place }),
             Err(error) => Err(EntryRefusal { map, error }),
+        }
+    }
+
+    /// Inserts the item that a closure made, as `insert_mut_or_refuse` does, or returns the error with which the closure
+    /// failed.
+    pub(super) fn insert_made<E>(
+        self,
+        made: Result<T, E>,
+    ) -> Result<RefMut<'a, T>, TryEntryRefusal<'a, T, E>>
+        ensures same_map { IfOk result (λ m. m.map.ghost_name ≡ self.entry.map.ghost_name) }
+        ensures same_map_at_err { IfErr result (λ e. e.map.ghost_name ≡ self.entry.map.ghost_name) }
+        ensures unchanged { IfErr result (λ e. e.map.now ≡ self.entry.map.now) }
+        ensures puts_in { PutsInMade self.entry made result }
+    {
+        let VacantEntry { map, query, place } = self;
+        match made {
+            Ok(item) => match map.insert_free(item, query, place) {
+                Ok(place) => Ok(RefMut { map, place }),
+                Err(error) => Err(TryEntryRefusal {
+                    map,
+                    error: TryEntryError::Insert(error),
+                }),
+            },
+            Err(e) => Err(TryEntryRefusal {
+                map,
+                error: TryEntryError::Closure(e),
+            }),
         }
     }
 }

@@ -4,10 +4,13 @@ ghost use Rattle.iddqd_ord.specs.Items.{items};
 
 use super::IdOrdMap;
 use crate::item::IdOrdItem;
-use crate::slot_order::SlotOrder;
-use iddqd_store::{ItemSet, TryReserveError};
+use iddqd_order::Blocks;
+use iddqd_store::TryReserveError;
 use std::alloc::Global;
 use std::marker::PhantomData;
+
+/// How many items a block has at most, whatever their size: the checker does not take a bound that `size_of` of the item chooses.
+pub(super) const BLOCK: usize = 128;
 
 impl<T: IdOrdItem> IdOrdMap<T> {
     /// Makes an empty map of capacity 0. The call allocates no memory.
@@ -16,8 +19,7 @@ impl<T: IdOrdItem> IdOrdMap<T> {
         ensures capacity { result.capacity ≡ 0 }
     {
         IdOrdMap {
-            items: ItemSet::new(alloc),
-            order: SlotOrder::new(alloc),
+            items: Blocks::new(alloc, BLOCK),
             keys: PhantomData,
         }
     }
@@ -32,18 +34,15 @@ impl<T: IdOrdItem> IdOrdMap<T> {
 
     /// Makes an empty map in which exactly `count` items fit.
     ///
-    /// The call allocates the slots and the index. It fails if an allocation fails, or if the number of items is too large
+    /// The call fails if an allocation fails, or if the number of items is too large
     /// for memory. For 0 items it allocates nothing, and succeeds.
     pub fn with_capacity(alloc: Global, count: usize) -> Result<Self, TryReserveError>
         ensures empty { IfOk result (λ map. items map ≡ []) }
         ensures capacity { IfOk result (λ map. map.capacity ≡ count) }
         ensures never_refused { count ≡ 0 → IsOk result }
     {
-        let mut order = SlotOrder::new(alloc);
-        order.try_reserve(count)?;
         Ok(IdOrdMap {
-            items: ItemSet::with_capacity(alloc, count)?,
-            order,
+            items: Blocks::with_capacity(alloc, BLOCK, count)?,
             keys: PhantomData,
         })
     }

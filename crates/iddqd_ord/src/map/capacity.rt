@@ -24,27 +24,31 @@ impl<T: IdOrdItem> IdOrdMap<T> {
         self.len() == 0
     }
 
-    /// Returns how many items fit without growing: the least of what the slots and the index hold.
+    /// Returns how many items fit without growing.
     pub fn capacity(&self) -> usize
         ensures value { result ≡ self.now.capacity }
         ensures fits { length (items self.now) ≤ result }
     {
-        self.least_capacity()
+        self.items.capacity()
     }
 
     /// Reserves capacity for this many more items. If they fit already, the call allocates no memory. It compares no key.
     ///
-    /// Where the slots bound the capacity, they double if there is memory for that. So all calls for one item before each
-    /// insert take linear time together.
+    /// The call fails if an allocation fails, or if the number of items would be too large for memory. Then the map is as
+    /// before, and no memory is kept.
     ///
-    /// The call fails if an allocation fails, or if the number of items would be too large for memory. Then the items and
-    /// the capacity are as before. Slots or index may have more room then, which serves a later call.
+    /// While the items stand in one block, its memory doubles. Then one more item takes one more block, and no item moves. So
+    /// calls for one item before each insert take linear time together. Room for more than one more block is one allocation,
+    /// which is not touched as long as there is memory for a block when an insert needs one, and which goes back when the blocks
+    /// have room for all. If there is none, and all blocks are full, all items move to that allocation as one block. No insert
+    /// fails then, but each moves up to half of the items.
     pub fn reserve(&mut self, more: usize) -> Result<(), TryReserveError>
         ensures items { items self.new ≡ items self.old }
         ensures room { MakesRoom self.old more result self.new }
         ensures unchanged { OnErr result (self.new ≡ self.old) }
     {
-        self.grow(more)
+        self.items.try_reserve(more)?;
+        Ok(())
     }
 
     /// Reserves capacity as `reserve` does. If the call fails, the map is as before. Both calls are the same: the two
@@ -57,7 +61,8 @@ impl<T: IdOrdItem> IdOrdMap<T> {
         self.reserve(more)
     }
 
-    /// Drops all items. The capacity stays. The call allocates no memory, and compares no key.
+    /// Drops all items. The capacity stays, and the memory that it needs; the rest goes back. The call allocates no memory, and
+    /// compares no key.
     pub fn clear(&mut self)
     where
         T: Drop,
@@ -65,6 +70,5 @@ impl<T: IdOrdItem> IdOrdMap<T> {
         ensures capacity { self.new.capacity ≡ self.old.capacity }
     {
         self.items.clear();
-        self.order.clear();
     }
 }

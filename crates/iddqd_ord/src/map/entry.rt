@@ -1,16 +1,14 @@
-//! Looking up a key for an entry, entries of the first and the last item, and an iteration for writing.
-ghost use Rattle.std.specs.Prelude.{◌≡◌, ◌-◌, [], IfSome, length, slice_get, slice_set};
+//! Looking up a key for an entry, and entries of the first and the last item.
+ghost use Rattle.std.specs.Prelude.{◌≡◌, ◌-◌, IfSome, length, slice_get, slice_set};
 ghost use Rattle.std.specs.Option.{option_and_then};
 ghost use Rattle.iddqd_store.specs.Bag.{IsOnly};
 ghost use Rattle.iddqd_ord.specs.Items.{items, has};
 ghost use Rattle.iddqd_ord.specs.Entries.{HasItem, IsFound, OnOccupied, OnVacant, entry_item, entry_lender, entry_map, found_index, found_item};
-ghost use Rattle.iddqd_ord.specs.IterMuts.{done_of, rest_of};
 ghost use Rattle.iddqd_ord.specs.Lent.{in_place};
 
 use super::IdOrdMap;
 use crate::entry::{Entry, OccupiedEntry, VacantEntry};
 use crate::item::IdOrdItem;
-use crate::iter_mut::IterMut;
 use crate::query::OrdQuery;
 use iddqd_store::Meter;
 
@@ -18,7 +16,7 @@ impl<T: IdOrdItem> IdOrdMap<T> {
     /// Looks up a key by a query. The result is `Vacant` if no item has the key, otherwise `Occupied`, with the item that
     /// has it. The entry keeps what the search found.
     ///
-    /// Among fewer than `2 ^ i` items the call compares at most `i + 3` keys. It allocates no memory.
+    /// Among fewer than `4 ^ r` items the call compares at most `3 * r + 19` keys. It allocates no memory.
     ///
     /// ```text
     /// match map.entry(&key) {
@@ -75,26 +73,5 @@ impl<T: IdOrdItem> IdOrdMap<T> {
     {
         let place = self.last_place()?;
         Some(OccupiedEntry { map: self, place })
-    }
-
-    /// Iterates over the items for writing, in ascending order of their keys: the data of each item once, one at a time.
-    /// The call compares no key, and allocates no memory.
-    ///
-    /// ```text
-    /// let mut items = map.iter_mut();
-    /// while let Some(data) = items.next_data() {
-    ///     *data = 0;
-    /// }
-    /// ```
-    pub fn iter_mut(&mut self) -> IterMut<'_, T>
-        // The iteration borrows this very map, unchanged so far.
-        ensures same_map { result.map.ghost_name ≡ self.entry.ghost_name }
-        ensures unchanged { result.map.now ≡ self.old }
-        // No item has been passed, and all are left.
-        ensures start { done_of result ≡ [] }
-        ensures gives { rest_of result ≡ items self.old }
-    {
-        let next = self.first_place();
-        IterMut { map: self, next }
     }
 }

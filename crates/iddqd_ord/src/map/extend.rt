@@ -14,10 +14,11 @@ use std::alloc::Global;
 impl<T: IdOrdItem + Drop> IdOrdMap<T> {
     /// Inserts the items one by one, as `insert_overwrite` does, and drops the items that this removes.
     ///
-    /// First the call reserves capacity for as many items as the iterator promises, or for half as many if the map has
-    /// items, since these may have the same key. If that fails, the call goes on, and the map grows as it fills. If there is
-    /// no memory for an item, the error has that item. Those before it stay in the map, and the rest are dropped with the
-    /// iterator.
+    /// If there is no memory for an item, the error has that item. Those before it stay in the map, and the rest are dropped
+    /// with the iterator.
+    ///
+    /// The call reserves no capacity for what the iterator promises: the map grows as it fills, block by block, and no item
+    /// is moved for that. For each item it compares as many keys as `insert_overwrite` does.
     pub fn extend<I: IntoIterator<Item = T>>(&mut self, iter: I) -> Result<(), MemoryRefused<T>>
         requires finite { IsFiniteIterable I.into_iter_gives I.IntoIter.can_next I.IntoIter.remaining iter }
         // After `Ok`, each item was put into the map; after an error, each item before the returned one.
@@ -33,17 +34,8 @@ impl<T: IdOrdItem + Drop> IdOrdMap<T> {
         ensures same_room { FitsOn I.into_iter_gives I.IntoIter.remaining iter (length (items self.old)) self.old.capacity
             → self.new.capacity ≡ self.old.capacity }
     {
-        let items = iter.into_iter();
-        let promised = items.size_hint().0;
-        let wanted = if self.is_empty() {
-            promised
-        } else {
-            promised.div_ceil(2)
-        };
-        // This error is ignored: the call may succeed without the capacity, since the items may share keys.
-        let _ = self.grow(wanted);
         self.note_order();
-        for item in items {
+        for item in iter {
             drop(self.insert_overwrite(item)?);
         }
         Ok(())
@@ -51,8 +43,7 @@ impl<T: IdOrdItem + Drop> IdOrdMap<T> {
 
     /// Makes a map of the items. It inserts each as `insert_overwrite` does, and drops the items that this removes.
     ///
-    /// The call reserves capacity as `extend` does. If there is no memory for an item, the error has that item, and there is
-    /// no map.
+    /// If there is no memory for an item, the error has that item, and there is no map. The call costs what `extend` costs.
     pub fn from_iter<I: IntoIterator<Item = T>>(
         alloc: Global,
         iter: I,
@@ -66,7 +57,6 @@ impl<T: IdOrdItem + Drop> IdOrdMap<T> {
     {
         let mut map = IdOrdMap::new(alloc);
         map.extend(iter)?;
-        map.note_order();
         Ok(map)
     }
 }

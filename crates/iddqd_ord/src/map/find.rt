@@ -1,4 +1,4 @@
-//! Lookups. Each halves the index, which leads to the item's slot.
+//! Lookups. Each searches the blocks once, and `place_of` counts the keys that it compares.
 ghost use Rattle.std.specs.Prelude.{◌≡◌, option_copied};
 ghost use Rattle.std.specs.List.{list_any};
 ghost use Rattle.iddqd_store.specs.Bag.{IsOnly};
@@ -13,7 +13,7 @@ impl<T: IdOrdItem> IdOrdMap<T> {
     /// Returns the item with the key that the query seeks, or `None`. A query is a `&key`, or what is compared with
     /// keys, such as a `&str` for a `String`: `map.get(&key)`, `map.get("main")`.
     ///
-    /// Among fewer than `2 ^ i` items the call compares at most `i + 3` keys.
+    /// Among fewer than `4 ^ r` items the call compares at most `3 * r + 19` keys.
     pub fn get<Q: OrdQuery<T::Key>>(&self, query: Q) -> Option<&T>
         ensures { IsOnly (has T.IdOrdItem Q.compare query) (items self.now) (option_copied result) }
     {

@@ -1,12 +1,15 @@
 //! Inserting an item whose key no other has.
-ghost use Rattle.std.specs.Prelude.{◌≡◌, ◌^◌, ◌+◌, ◌<◌, ◌≤◌, ℕ, false, length, IsOk, OnOk, OnErr, IfErr};
+ghost use Rattle.std.specs.Prelude.{◌≡◌, ◌^◌, ◌+◌, ◌*◌, ◌<◌, ◌≤◌, ℕ, false, length, IsOk, OnOk, OnErr, IfErr};
 ghost use Rattle.std.specs.List.{list_any};
-ghost use Rattle.iddqd_ord.specs.Items.{items, like, Gains};
+ghost use Rattle.iddqd_order.specs.Row.{position, IsPlace};
+ghost use Rattle.iddqd_ord.specs.Items.{items, against, like, Gains};
 ghost use Rattle.iddqd_ord.specs.Inserts.{TellsWhy};
+ghost use Rattle.iddqd_ord.specs.Ordered.{IsSplit};
 
 use super::IdOrdMap;
 use crate::error::Rejected;
 use crate::item::IdOrdItem;
+use iddqd_order::Place;
 use iddqd_store::Meter;
 
 impl<T: IdOrdItem> IdOrdMap<T> {
@@ -17,8 +20,8 @@ impl<T: IdOrdItem> IdOrdMap<T> {
     /// If the key is taken, the call fails, whatever memory there is. Otherwise it fails only if the map is full and there
     /// is no memory to grow.
     ///
-    /// Among fewer than `2 ^ i` items the call compares at most `i + 3` keys. In the index it moves at most 256 numbers of
-    /// slots, and if it splits a block, the entries of the blocks behind it. It allocates memory only if the map is full.
+    /// Among fewer than `4 ^ r` items the call compares at most `3 * r + 19` keys. It moves the items behind the new one in
+    /// its block, of at most 128. It asks for memory only if that block is full, and for more capacity only if the map is.
     ///
     /// `match map.try_insert(item) { Ok(()) => {}, Err(e) => report(e.taken, e.item) }`
     pub fn try_insert(&mut self, item: T) -> Result<(), Rejected<T>>
@@ -45,16 +48,33 @@ impl<T: IdOrdItem> IdOrdMap<T> {
         ensures handed_back { IfErr result (λ e. e.item ≡ item) }
         ensures unchanged { OnErr result (self.new ≡ self.old) }
         ensures reason { IfErr result (λ e. TellsWhy T.IdOrdItem T.Key.cmp self.old item e) }
-        ensures asked { (i : ℕ) → length (items self.old) < 2 ^ i → meter.new ≤ meter.old + (i + 3) }
+        ensures asked { (r : ℕ) → length (items self.old) < 4 ^ r → meter.new ≤ meter.old + (3 * r + 19) }
     {
-        let Err(place) = self.place_of(item.key(), meter) else {
-            return Err(Rejected { item, taken: true });
-        };
-        if let Err(_) = self.make_room() {
-            return Err(Rejected { item, taken: false });
+        match self.place_of(item.key(), meter) {
+            Ok(_) => Err(Rejected { item, taken: true }),
+            Err(place) => match self.insert_at(item, place) {
+                Ok(_) => Ok(()),
+                Err(item) => Err(Rejected { item, taken: false }),
+            },
         }
-        self.insert_into(item, place);
-        self.note_order();
-        Ok(())
+    }
+
+    /// Inserts an item at the place at which a search for its key ended, and returns where it is. If the map is full and there is
+    /// no memory to grow, it returns the item. Each insert of an item whose key is free ends here.
+    #[inline(always)]
+    pub(super) fn insert_at(&mut self, item: T, place: Place) -> Result<Place, T>
+        requires place { IsPlace self.old.blocks place }
+        requires gap { IsSplit (against T.IdOrdItem T.Key.cmp item) (items self.old) (position self.old.blocks place) 0 }
+        ensures gains { OnOk result (Gains T.IdOrdItem T.Key.cmp self.old item self.new) }
+        ensures free { list_any (like T.IdOrdItem T.Key.cmp item) (items self.old) ≡ false }
+        ensures granted { length (items self.old) < self.old.capacity → IsOk result }
+        ensures handed_back { IfErr result (λ x. x ≡ item) }
+        ensures full { OnErr result (length (items self.old) ≡ self.old.capacity) }
+        ensures unchanged { OnErr result (self.new ≡ self.old) }
+    {
+        match self.make_room() {
+            Ok(()) => Ok(self.insert_into(item, place)),
+            Err(_) => Err(item),
+        }
     }
 }

@@ -2,14 +2,11 @@
 ghost use Rattle.std.specs.Prelude.{◌≡◌, ◌<◌, ◌⊎◌, true, false, length, IsOk, OnOk, OnErr, IfErr};
 ghost use Rattle.std.specs.Borrow.{sem};
 ghost use Rattle.std.specs.List.{list_any};
-ghost use Rattle.iddqd_ord.specs.Items.{items, against, like, Gains, IsFullFor};
-ghost use Rattle.iddqd_ord.specs.Ordered.{IsSplit};
-ghost use Rattle.iddqd_ord.specs.Row.{position, IsPlace};
+ghost use Rattle.iddqd_ord.specs.Items.{items, like, Gains, IsFullFor};
 
 use super::IdOrdMap;
 use crate::error::InsertError;
 use crate::item::IdOrdItem;
-use crate::slot_order::Place;
 use iddqd_store::Meter;
 
 impl<T: IdOrdItem> IdOrdMap<T> {
@@ -21,7 +18,8 @@ impl<T: IdOrdItem> IdOrdMap<T> {
     /// Otherwise the call fails only if the map is full and there is no memory to grow. Each error has the item, and
     /// borrows the map, which is as it was.
     ///
-    /// Among fewer than `2 ^ i` items the call compares at most `i + 3` keys. It allocates memory only if the map is full.
+    /// Among fewer than `4 ^ r` items the call compares at most `3 * r + 19` keys. It asks for
+    /// memory only if the block that the item goes to is full.
     ///
     /// ```text
     /// match steps.insert_unique(step) {
@@ -43,16 +41,13 @@ impl<T: IdOrdItem> IdOrdMap<T> {
             (λ new. Gains T.IdOrdItem T.Key.cmp self.old item new)) }
     {
         match self.place_of(item.key(), &mut Meter::new()) {
-            Ok(place) => {
-                let _ = self.item_in(place);
-                Err(InsertError {
-                    map: self,
-                    item,
-                    found: Some(place),
-                })
-            }
+            Ok(place) => Err(InsertError {
+                map: self,
+                item,
+                found: Some(place),
+            }),
             Err(place) => match self.insert_at(item, place) {
-                Ok(()) => Ok(()),
+                Ok(_) => Ok(()),
                 Err(item) => Err(InsertError {
                     map: self,
                     item,
@@ -60,24 +55,5 @@ impl<T: IdOrdItem> IdOrdMap<T> {
                 }),
             },
         }
-    }
-
-    /// Inserts an item at the place that a search for its key found. If there is no memory, it returns the item.
-    fn insert_at(&mut self, item: T, place: Place) -> Result<(), T>
-        requires place { IsPlace self.old.blocks place }
-        requires gap { IsSplit (against T.IdOrdItem T.Key.cmp item) (items self.old) (position self.old.blocks place) 0 }
-        ensures gains { OnOk result (Gains T.IdOrdItem T.Key.cmp self.old item self.new) }
-        ensures granted { length (items self.old) < self.old.capacity → IsOk result }
-        ensures free { list_any (like T.IdOrdItem T.Key.cmp item) (items self.old) ≡ false }
-        ensures handed_back { IfErr result (λ x. x ≡ item) }
-        ensures full { OnErr result (length (items self.old) ≡ self.old.capacity) }
-        ensures unchanged { OnErr result (self.new ≡ self.old) }
-    {
-        if let Err(_) = self.make_room() {
-            return Err(item);
-        }
-        self.insert_into(item, place);
-        self.note_order();
-        Ok(())
     }
 }

@@ -1,41 +1,66 @@
 //! Iterating over the items in the order of their keys.
 ghost use Rattle.std.specs.Prelude.{◌≡◌, ◌<◌, ◌^◌, filter, length};
-ghost use Rattle.std.specs.Map.Iter.{ShowsInOrder, deref};
+ghost use Rattle.std.specs.Map.Iter.{ShowsInOrder, ShowsInReverse, deref};
 ghost use Rattle.iddqd_ord.specs.Items.{items, within};
 ghost use Rattle.iddqd_ord.specs.Ordered.{IsAscending};
+ghost use Rattle.iddqd_ord.specs.Walks.{MeetsFirst, MeetsLast};
 
 use super::IdOrdMap;
 use crate::item::IdOrdItem;
-use crate::iter::Iter;
-use crate::query::OrdQuery;
+use crate::query::{OrdRange, OrdSeek};
+use iddqd_order::{IntoIter, Iter};
 use iddqd_store::Meter;
 use std::fmt::{self, Debug, Formatter, Write};
-use std::ops::RangeBounds;
 
 impl<T: IdOrdItem> IdOrdMap<T> {
-    /// Iterates over the items by reference, in ascending order of their keys. The call compares no key, and allocates no
-    /// memory.
+    /// Iterates over the items by reference, in ascending order of their keys, or by `rev` in descending order. The call
+    /// compares no key, and allocates no memory. `len` of the iterator takes one step.
+    ///
+    /// `map.iter().rev().take(3)`
     pub fn iter(&self) -> Iter<'_, T>
         ensures gives { result ≡ items self.now }
         ensures ascending { IsAscending T.Key.cmp T.key (items self.now) }
         ensures runs { ShowsInOrder (deref {X = T}) }
+        ensures runs_back { ShowsInReverse (deref {X = T}) }
+        ensures meets_first { MeetsFirst T }
+        ensures meets_last { MeetsLast T }
         ensures countable { length (items self.now) < 2 ^ 64 }
     {
         self.note_order();
-        Iter::new(&self.items, &self.order, self.order.first(), None)
+        self.items.iter()
     }
 
-    /// Iterates over the items between two bounds, in ascending order of their keys. The bounds are queries, and their
-    /// type has to be written: `map.range::<&u64, _>(&3..&7)`. A range that ends before it begins has no items.
+    /// Iterates over the items between two bounds, in ascending order of their keys. The bounds are queries:
+    /// `map.range(&3..&7)`, `map.range("a"..="m")`, `map.range((&user, "a")..)`. The type of the queries has to be written
+    /// for `..` alone. A range that ends before it begins has no items.
     ///
-    /// Among fewer than `2 ^ i` items each bound compares at most `i + 3` keys. The call allocates no memory.
-    pub fn range<Q: OrdQuery<T::Key>, R: RangeBounds<Q> + Drop>(&self, range: R) -> Iter<'_, T>
-        ensures { R.has_bounds range → result
-            ≡ filter (within T.IdOrdItem Q.compare (R.start_bound range) (R.end_bound range)) (items self.now) }
+    /// Among fewer than `4 ^ r` items each bound compares at most `3 * r + 19` keys. The call allocates no memory. `len`
+    /// and `size_hint` of the iterator count the items between the bounds, by a step for each block of items.
+    ///
+    /// The item before a key, and the one behind it: `map.range(..&key).next_back()`,
+    /// `map.range((Bound::Excluded(&key), Bound::Unbounded)).next()`
+    pub fn range<Q: OrdSeek<T::Key>, R: OrdRange<Q>>(&self, range: R) -> Iter<'_, T>
+        ensures gives { R.has_bounds range → result
+            ≡ filter (within T.IdOrdItem Q.side (R.start_bound range) (R.end_bound range)) (items self.now) }
+        ensures runs { ShowsInOrder (deref {X = T}) }
+        ensures runs_back { ShowsInReverse (deref {X = T}) }
+        ensures meets_first { MeetsFirst T }
+        ensures meets_last { MeetsLast T }
+        ensures countable { length result < 2 ^ 64 }
     {
         let next = self.first_from(range.start_bound(), &mut Meter::new());
         let end = self.first_past(range.end_bound(), &mut Meter::new());
-        Iter::new(&self.items, &self.order, next, end)
+        self.items.range(next, end)
+    }
+}
+
+impl<T: IdOrdItem> IdOrdMap<T> {
+    /// Returns an iterator over the items by value.
+    pub(crate) fn into_items(self) -> IntoIter<T>
+        ensures { result ≡ items self }
+    {
+        let IdOrdMap { items, keys: _ } = self;
+        items.into_iter()
     }
 }
 

@@ -1,5 +1,5 @@
 //! Inserting an item in place of the one that has its key.
-ghost use Rattle.std.specs.Prelude.{◌≡◌, ◌≢◌, ◌+◌, ◌^◌, ◌<◌, ◌≤◌, ℕ, [], length, IsOk, IfOk, IfErr, OnOk, OnErr};
+ghost use Rattle.std.specs.Prelude.{◌≡◌, ◌≢◌, ◌+◌, ◌*◌, ◌^◌, ◌<◌, ◌≤◌, ℕ, [], length, IsOk, IfOk, IfErr, OnOk, OnErr};
 ghost use Rattle.iddqd_store.specs.Bag.{IsOnly};
 ghost use Rattle.iddqd_ord.specs.Items.{items, like, IsFullFor};
 ghost use Rattle.iddqd_ord.specs.Inserts.{Overwrites};
@@ -14,7 +14,7 @@ impl<T: IdOrdItem> IdOrdMap<T> {
     /// If an item has its key, the call allocates no memory and the capacity stays. Otherwise it fails only if the map is
     /// full and there is no memory to grow. The error then has the item, and the map is as it was.
     ///
-    /// Among fewer than `2 ^ i` items the call compares at most `i + 3` keys.
+    /// Among fewer than `4 ^ r` items the call compares at most `3 * r + 19` keys.
     pub fn insert_overwrite(&mut self, item: T) -> Result<Option<T>, MemoryRefused<T>>
         // The item that had the key is returned, and the new one is in its place.
         ensures displaced { IfOk result (IsOnly (like T.IdOrdItem T.Key.cmp item) (items self.old)) }
@@ -42,7 +42,7 @@ impl<T: IdOrdItem> IdOrdMap<T> {
         ensures handed_back { IfErr result (λ e. e.value ≡ item) }
         ensures unchanged { OnErr result (self.new ≡ self.old) }
         ensures reason { OnErr result (IsFullFor T.IdOrdItem T.Key.cmp self.old item) }
-        ensures asked { (i : ℕ) → length (items self.old) < 2 ^ i → meter.new ≤ meter.old + (i + 3) }
+        ensures asked { (r : ℕ) → length (items self.old) < 4 ^ r → meter.new ≤ meter.old + (3 * r + 19) }
     {
         match self.place_of(item.key(), meter) {
             Ok(place) => {
@@ -50,14 +50,10 @@ impl<T: IdOrdItem> IdOrdMap<T> {
                 self.note_order();
                 Ok(Some(displaced))
             }
-            Err(place) => {
-                if let Err(_) = self.make_room() {
-                    return Err(MemoryRefused { value: item });
-                }
-                self.insert_into(item, place);
-                self.note_order();
-                Ok(None)
-            }
+            Err(place) => match self.insert_at(item, place) {
+                Ok(_) => Ok(None),
+                Err(value) => Err(MemoryRefused { value }),
+            },
         }
     }
 }

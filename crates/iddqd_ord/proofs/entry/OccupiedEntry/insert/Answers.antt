@@ -1,9 +1,9 @@
-use Rattle.std.proofs.Common.{◌≡◌, Some, refl, sym, ap, ◌∙◌, subst}
+use Rattle.std.proofs.Common.{◌≡◌, Some, refl, sym, ap, ◌∙◌}
 use Rattle.std.proofs.lemmas.Option.{get_or_from_slice_get, slice_get_within}
 use Rattle.std.specs.Prelude.{slice_get}
 use Rattle.iddqd_ord.specs.Entries.{found_index}
 use Rattle.iddqd_ord.specs.Items.{items}
-use Rattle.iddqd_ord.specs.Row.{position, HasSlot}
+use Rattle.iddqd_order.specs.Row.{position}
 use Rattle.iddqd_ord.proofs.RefMuts.{set_read}
 use Rattle.iddqd_ord.proofs.entry.OccupiedEntry.insert.Goals as goal
 
@@ -23,7 +23,7 @@ returns-in-Equal g c =
     let within = slice_get_within (items o.map.now) i x c.get.ensures in
     let read = put.item x ∙ get_or_from_slice_get (items o.map.now) i x x c.get.ensures in
     let same = sym (c.cmp.ensures ∙ (λ t. g.T.Key.Ord.cmp (c.key.ensures t) (c.key-2.ensures t))) ∙ c.in-Equal.is in
-    let index : position new.blocks o.place ≡ i = ap (λ b. position b o.place) put.blocks in
+    let index : position new.blocks o.place ≡ i = put.at in
     record {
       displaced = c.get.ensures ∙ ap Some (sym read);
       same_key = rw read same;
@@ -32,7 +32,7 @@ returns-in-Equal g c =
         lists = put.replaced;
         item = ap (slice_get (items new)) index ∙ set_read (items o.map.now) (items new) i c.args.item within put.replaced;
         same_index = index;
-        has_item = subst (λ b. HasSlot b o.place) (sym put.blocks) c.requires;
+        has_item = put.entry;
         capacity = put.capacity;
       };
       handed_back = tt;

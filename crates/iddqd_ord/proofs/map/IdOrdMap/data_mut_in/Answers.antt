@@ -1,44 +1,27 @@
-use Rattle.std.proofs.Common.{◌≡◌, Some, refl, ap, ◌∙◌, subst}
-use Rattle.std.specs.List.{concat}
-use Rattle.iddqd_store.specs.Slots.{get}
-use Rattle.iddqd_ord.specs.Items.{OrdMap}
-use Rattle.iddqd_ord.specs.Lent.{slot_of}
-use Rattle.iddqd_ord.specs.Ordered.{IsOrdered}
-use Rattle.iddqd_ord.specs.Row.{position}
-use Rattle.iddqd_ord.proofs.Lent.{IsOrdered-written, place_within, place_same, place_written, place_kept}
-use Rattle.iddqd_ord.proofs.Places.{position-below}
+use Rattle.std.proofs.Common.{refl, sym, ap, ◌∙◌}
+use Rattle.std.specs.Cmp.{tied_itself}
+use Rattle.iddqd_ord.proofs.Lent.{IsAscending-written, map_with_is, place_same, place_written, place_kept}
 use Rattle.iddqd_ord.proofs.map.IdOrdMap.data_mut_in.Goals as goal
-
-pub item_mut-requires : goal.item_mut-requires
-item_mut-requires g c =
-    let order = c.self.inside.order.blocks in
-    let has = rw (← c.self.view_is) at c.requires in
-    rw c.slot_at-slot.ensures (c.self.invariant.live (position order c.args.place) (position-below order c.args.place has))
 
 pub invariant_of-self-lent : goal.invariant_of-self-lent
 invariant_of-self-lent g c = λ w.
-    let order = c.self.inside.order.blocks in
-    let has = rw (← c.self.view_is) at c.requires in
-    IsOrdered-written g.met.T.Key.Ord.total g.T.IdOrdItem.key g.T.IdOrdItemMut.put g.met.T.IdOrdItemMut.keeps_key c.self.inside.items.slots (concat order) c.self.invariant
-    (position order c.args.place) _ (position-below order c.args.place has) c.slot_at-slot.ensures _ c.item_mut.ensures.value w
+    let there = rw (← c.self.view_is) at c.requires in
+    IsAscending-written g.met.T.Key.Ord.total g.T.IdOrdItem.key g.T.IdOrdItemMut.put (λ x d. g.met.T.IdOrdItemMut.keeps_key x d (tied_itself g.met.T.Key.Ord.total)) c.self.inside.items c.args.place there c.entry_mut.result.now c.entry_mut.ensures.value c.self.invariant w
 
 pub returns : goal.returns
 returns g c =
-    let total = g.met.T.Key.Ord.total in
-    let key = g.T.IdOrdItem.key in
     let put = g.T.IdOrdItemMut.put in
-    let m = c.args.self.now in
+    let m = c.self.inside.items in
     let p = c.args.place in
-    let x = c.item_mut.result.now in
-    let r = subst (λ (n : OrdMap g.row.T.Denot). IsOrdered g.T.Key.Ord.cmp key n.slots (concat n.blocks)) c.self.view_is c.self.invariant in
-    let at = subst (λ (n : OrdMap g.row.T.Denot). get n.slots (slot_of n p) ≡ Some x) c.self.view_is (rw c.slot_at-slot.ensures at c.item_mut.ensures.value) in
-    let keeps = g.met.T.IdOrdItemMut.keeps_key in (
-      (refl, λ w. rw (← c.self.view_is, ← c.slot_at-slot.ensures, c.item_mut.ensures.value) refl),
+    let x = c.entry_mut.result.now in
+    let there = rw (← c.self.view_is) at c.requires in
+    let at = c.entry_mut.ensures.value in (
+      (refl, λ w. rw (← c.self.view_is) (sym (map_with_is m p there x at (λ y. put y w)))),
       record {
         writes_back = tt;
-        within = place_within total key put keeps m p r c.requires x at;
-        value = λ y found. c.data_mut.ensures.value ∙ ap g.T.IdOrdItemMut.data_of (place_same total key put keeps m p r c.requires x at y found);
-        written = place_written total key put keeps m p r c.requires x at;
-        kept = place_kept total key put keeps m p r c.requires x at;
+        within = rw (← c.self.view_is) c.entry_mut.ensures.within;
+        value = rw (← c.self.view_is) (λ y found. c.data_mut.ensures.value ∙ ap g.T.IdOrdItemMut.data_of (place_same m p there x at y found));
+        written = rw (← c.self.view_is) (λ y d found. place_written m p there x at (λ z. put z d) y found);
+        kept = rw (← c.self.view_is) (λ y d found same. place_kept m p there x at (λ z. put z d) y found same);
       },
     )

@@ -1,20 +1,26 @@
-use Rattle.std.proofs.Common.{ap, ◌∙◌, arith}
-use Rattle.iddqd_ord.specs.Items.{OrdMap}
+use Rattle.std.proofs.Common.{ap, length, ◌∙◌, arith}
+use Rattle.std.proofs.lemmas.List.Edits.{length-insert}
+use Rattle.iddqd_order.specs.Row.{Order, position}
+use Rattle.iddqd_ord.specs.Items.{items}
 use Rattle.iddqd_ord.proofs.Parts.{inserted-split, any-absent}
 use Rattle.iddqd_ord.proofs.map.IdOrdMap.insert_at.Goals as goal
 
 pub returns-in-Err-clause-free : goal.returns-in-Err-clause-free
 returns-in-Err-clause-free g c = any-absent _ _ _ c.requires.gap
 
-pub returns-clause-free : goal.returns-clause-free
-returns-clause-free g c = any-absent _ _ _ c.requires.gap
+pub returns-in-Ok-clause-free : goal.returns-in-Ok-clause-free
+returns-in-Ok-clause-free g c = any-absent _ _ _ c.requires.gap
 
-pub returns-clause-gains : goal.returns-clause-gains
-returns-clause-gains g c =
-    let inserted = rw (c.make_room.ensures.slots, c.make_room.ensures.blocks) at c.insert_into.ensures.inserted in
+pub returns-in-Ok-clause-gains : goal.returns-in-Ok-clause-gains
+returns-in-Ok-clause-gains g c =
+    let m = c.args.self.now in
+    let gap = c.requires.gap in
+    let inserted = rw c.make_room.ensures.blocks at c.insert_into.ensures.inserted in
+    let more = ap length inserted ∙ length-insert (items m) (position m.blocks c.args.place) c.args.item (omega (arith, gap.in_range)) in
     record {
-      lists = inserted ∙ inserted-split _ _ _ c.requires.gap c.args.item;
+      lists = inserted ∙ inserted-split _ _ _ gap c.args.item;
+      more = more;
       no_less_room = omega (arith, c.insert_into.ensures.capacity, c.make_room.ensures.no_less_room);
-      same_room = λ room. c.insert_into.ensures.capacity ∙ ap (λ (m : OrdMap g.row.T.Denot). m.capacity) (c.make_room.ensures.same_room room);
-      fits = c.note_order.ensures.fits;
+      same_room = λ room. c.insert_into.ensures.capacity ∙ ap (λ (m : Order g.row.T.Denot). m.capacity) (c.make_room.ensures.same_room room);
+      fits = omega (arith, more, c.in-Ok.ensures.room, c.insert_into.ensures.capacity);
     }

@@ -1,7 +1,7 @@
-use Rattle.std.proofs.Common.{◌≡◌, Some, refl, sym, subst, inl, ◌∙◌}
+use Rattle.std.proofs.Common.{◌≡◌, Some, refl, sym, subst, inl, ◌∙◌, arith}
 use Rattle.iddqd_ord.specs.Items.{items, against}
-use Rattle.iddqd_ord.specs.Row.{position, HasSlot}
-use Rattle.iddqd_ord.specs.declared.slot_order.place.Place.{Place}
+use Rattle.iddqd_order.specs.Row.{position, HasEntry}
+use Rattle.iddqd_order.specs.declared.place.Place.{Place}
 use Rattle.iddqd_ord.proofs.Lent.{item_there, found_only}
 use Rattle.iddqd_ord.proofs.Parts.{absent-split, any-found}
 use Rattle.iddqd_ord.proofs.map.IdOrdMap.insert_unique.Goals as goal
@@ -14,9 +14,9 @@ invariant_of-self g c =
     let m = c.args.self.now in
     let i = position m.blocks c.in-Ok.place in
     let split = rw c.key.ensures at c.in-Ok.ensures.found in
-    let there = item_there (items m) i c.item_in.ensures.within in
+    let there = item_there (items m) i (omega (arith, split.in_range)) in
     record {
-      there = λ x e. subst (λ (p : Place). HasSlot m.blocks p) (some_same e) c.in-Ok.ensures.slot;
+      there = λ x e. subst (λ (p : Place). HasEntry m.blocks p) (some_same e) c.in-Ok.ensures.entry;
       found_is = rw there.1 (found_only (against g.T.IdOrdItem g.T.Key.Ord.cmp c.args.item) (items m) i split there.0 there.1);
     }
 

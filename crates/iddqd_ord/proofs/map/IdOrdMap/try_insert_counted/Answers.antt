@@ -1,26 +1,19 @@
-use Rattle.std.proofs.Common.{sym, ap, ◌∙◌, arith}
-use Rattle.iddqd_ord.specs.Items.{OrdMap}
-use Rattle.iddqd_ord.proofs.Parts.{inserted-split, any-absent}
+use Rattle.std.proofs.Common.{sym, ◌∙◌}
+use Rattle.std.proofs.lemmas.Bool.{false≢true}
+use Rattle.iddqd_ord.proofs.Parts.{any-found}
 use Rattle.iddqd_ord.proofs.map.IdOrdMap.try_insert_counted.Goals as goal
 
-pub returns-in-Err-make_room-clause-reason : goal.returns-in-Err-make_room-clause-reason
-returns-in-Err-make_room-clause-reason g c =
-    let gap = rw c.key.ensures at c.in-Err.ensures.gap in
-    let free = any-absent _ _ _ gap in
-    record { taken = sym free; full = λ none. record { free = free; full = c.in-Err-make_room.ensures.reason } }
+pub returns-in-Ok-clause-granted : goal.returns-in-Ok-clause-granted
+returns-in-Ok-clause-granted g c = λ free room.
+    (let found = rw c.key.ensures at c.in-Ok.ensures.found in
+    sym free ∙ any-found _ _ _ found)
 
-pub returns-clause-gains : goal.returns-clause-gains
-returns-clause-gains g c =
-    let gap = rw c.key.ensures at c.in-Err.ensures.gap in
-    let inserted = rw (c.make_room.ensures.slots, c.make_room.ensures.blocks) at c.insert_into.ensures.inserted in
-    record {
-      lists = inserted ∙ inserted-split _ _ _ gap c.args.item;
-      no_less_room = omega (arith, c.insert_into.ensures.capacity, c.make_room.ensures.no_less_room);
-      same_room = λ room. c.insert_into.ensures.capacity ∙ ap (λ (m : OrdMap g.row.T.Denot). m.capacity) (c.make_room.ensures.same_room room);
-      fits = c.note_order.ensures.fits;
-    }
+pub returns-in-Ok-clause-reason : goal.returns-in-Ok-clause-reason
+returns-in-Ok-clause-reason g c =
+    let found = rw c.key.ensures at c.in-Ok.ensures.found in
+    record { taken = sym (any-found _ _ _ found); full = λ none. absurd (false≢true (sym none)) }
 
-pub returns-clause-free : goal.returns-clause-free
-returns-clause-free g c =
-    let gap = rw c.key.ensures at c.in-Err.ensures.gap in
-    any-absent _ _ _ gap
+pub returns-in-Err-insert_at-clause-reason : goal.returns-in-Err-insert_at-clause-reason
+returns-in-Err-insert_at-clause-reason g c =
+    let free = c.in-Err-insert_at.ensures.free in
+    record { taken = sym free; full = λ none. record { free = free; full = c.in-Err-insert_at.ensures.full } }

@@ -3,7 +3,6 @@ use Rattle.std.proofs.lemmas.Option.{get_or_from_slice_get, slice_get_within}
 use Rattle.std.specs.Prelude.{slice_get}
 use Rattle.iddqd_ord.specs.Items.{items}
 use Rattle.iddqd_ord.specs.RefMuts.{ref_index}
-use Rattle.iddqd_ord.specs.Row.{position}
 use Rattle.iddqd_ord.proofs.RefMuts.{set_read}
 use Rattle.iddqd_ord.proofs.ref_mut.RefMut.replace.Goals as goal
 
@@ -26,9 +25,9 @@ returns-in-Equal-clause-replaces g c =
     record {
       same_map = refl;
       old = c.deref.ensures ∙ ap Some (sym read);
-      new = ap (λ b. slice_get (items new) (position b r.place)) put.blocks ∙ set_read (items r.map.now) (items new) i c.args.item within put.replaced;
+      new = ap (slice_get (items new)) put.at ∙ set_read (items r.map.now) (items new) i c.args.item within put.replaced;
       lists = put.replaced;
-      same_index = ap (λ b. position b r.place) put.blocks;
+      same_index = put.at;
       same_key = rw read same;
       capacity = put.capacity;
     }

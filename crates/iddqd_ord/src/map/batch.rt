@@ -1,0 +1,67 @@
+//! The numbers of the items of a list, in the order of the keys of these items.
+ghost use Rattle.std.specs.Prelude.{◌≡◌, ◌+◌, ◌*◌, ◌^◌, ◌<◌, ◌≤◌, ℕ, true, [], length, slice_get, IfOk, IfErr, OnOk};
+ghost use Rattle.std.specs.List.{insert, list_any};
+ghost use Rattle.iddqd_order.specs.Cut.{order_at};
+ghost use Rattle.iddqd_order.specs.Row.{entries_in, position, IsPlace};
+ghost use Rattle.iddqd_ord.specs.Batches.{IsOrderOf};
+ghost use Rattle.iddqd_ord.specs.Items.{against, like};
+ghost use Rattle.iddqd_ord.specs.Ordered.{IsSplit};
+ghost use Rattle.iddqd_ord.specs.Puts.{puts};
+
+use crate::item::IdOrdItem;
+use iddqd_order::{Blocks, Place, Probe};
+use iddqd_store::{Meter, TryReserveError};
+use std::cmp::Ordering;
+
+/// Compares the key of an item of a list, by its number, with that of another item.
+#[derive(Drop)]
+struct ByNumber<'a, T> {
+    list: &'a [T],
+    item: &'a T,
+}
+
+impl<'a, T: IdOrdItem> Probe<usize> for ByNumber<'a, T> {
+    ghost order = { λ p n. order_at (against T.IdOrdItem T.Key.cmp p.item.now) (slice_get p.list.now n) };
+
+    ghost MayAsk = { λ p n. n < length p.list.now };
+
+    fn compare(&self, number: &usize, meter: &mut Meter) -> Ordering {
+        meter.tick();
+        self.list[*number].key().cmp(self.item.key())
+    }
+}
+
+/// Searches for the number of an item of the list that has the key of this item. `Err` has the place at which the number of this
+/// one would go.
+pub(super) fn place_in<T: IdOrdItem>(
+    order: &Blocks<usize>,
+    list: &[T],
+    item: &T,
+    meter: &mut Meter,
+) -> Result<Place, Place>
+    requires { IsOrderOf T.IdOrdItem T.Key.cmp list.now (entries_in order.now) }
+    ensures found { IfOk result (λ _. list_any (like T.IdOrdItem T.Key.cmp item.now) list.now ≡ true) }
+    ensures place { IfErr result (IsPlace order.now.blocks) }
+    ensures gap { IfErr result (λ p. IsSplit (against T.IdOrdItem T.Key.cmp item.now)
+        (puts T.IdOrdItem T.Key.cmp [] list.now) (position order.now.blocks p) 0) }
+    ensures asked { (r : ℕ) → length list.now < 4 ^ r → meter.new ≤ meter.old + (3 * r + 19) }
+{
+    order.search(&ByNumber { list, item }, meter)
+}
+
+/// Inserts a number at this place.
+pub(super) fn insert_number(
+    order: &mut Blocks<usize>,
+    place: Place,
+    number: usize,
+) -> Result<(), TryReserveError>
+    requires { IsPlace order.old.blocks place }
+    ensures inserted { OnOk result (entries_in order.new
+        ≡ insert (entries_in order.old) (position order.old.blocks place) number) }
+{
+    if order.len() == order.capacity() {
+        order.try_reserve(1)?;
+    }
+    let _ = order.insert(place, number);
+    Ok(())
+}

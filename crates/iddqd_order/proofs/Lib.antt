@@ -1,0 +1,6 @@
+pub mod Clones
+pub mod Cutting
+pub mod Iters
+pub mod Lines
+pub mod Parts
+pub mod Places

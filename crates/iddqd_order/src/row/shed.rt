@@ -1,0 +1,156 @@
+//! Memory that a row gives back.
+ghost use Rattle.std.specs.Prelude.{◌≡◌, ◌+◌, ◌*◌, ◌<◌, ◌≤◌, [], length, All, IsTrue};
+ghost use Rattle.iddqd_order.specs.Row.{line, rows};
+
+use super::BlockRow;
+use crate::block::Block;
+
+/// Returns whether so many blocks with so much memory each hold so many entries.
+fn holds(memory: usize, blocks: usize, entries: usize) -> bool
+    ensures { IsTrue result → entries ≤ memory * blocks }
+{
+    match memory.checked_mul(blocks) {
+        Some(all) => entries <= all,
+        None => false,
+    }
+}
+
+impl<E> BlockRow<E> {
+    /// Makes all blocks spare, and drops their entries.
+    pub(crate) fn clear(&mut self)
+    where
+        E: Drop,
+        ensures blocks { self.new.blocks ≡ [] }
+        ensures spare { self.new.spare ≡ length self.old.blocks + self.old.spare }
+        ensures memory { self.new.memory ≡ self.old.memory }
+        ensures most { self.new.most ≡ self.old.most }
+    {
+        let mut left = self.blocks.len();
+        while 0 < left {
+            self.retire();
+            left -= 1;
+        }
+    }
+
+    /// Makes the last block spare, and drops its entries.
+    fn retire(&mut self)
+    where
+        E: Drop,
+        requires { 0 < length self.old.blocks }
+        ensures blocks { length self.new.blocks + 1 ≡ length self.old.blocks }
+        ensures spare { self.new.spare ≡ self.old.spare + 1 }
+        ensures memory { self.new.memory ≡ self.old.memory }
+        ensures most { self.new.most ≡ self.old.most }
+    {
+        let mut block = self.blocks.take_last();
+        block.clear();
+        self.spare.push_reserved(block);
+    }
+
+    /// Gives all memory back that so many entries do not need: spare blocks, the room of the rows for blocks that are gone, and
+    /// of the only block, if there is but one, the memory for more entries. The entries in the row stay where they are.
+    pub(crate) fn shed_to(&mut self, entries: usize)
+        requires held { entries ≤ self.old.memory * (length self.old.blocks + self.old.spare) }
+        requires fits { length (line self.old.blocks) ≤ entries }
+        ensures blocks { self.new.blocks ≡ self.old.blocks }
+        ensures most { self.new.most ≡ self.old.most }
+        ensures held { entries ≤ self.new.memory * (length self.new.blocks + self.new.spare) }
+    {
+        while 0 < self.spare() && holds(self.memory, self.total() - 1, entries) {
+            self.free_one();
+        }
+        self.trim();
+        if self.total() == 1 && entries.max(4) < self.memory {
+            self.narrow(entries.max(4));
+        }
+    }
+
+    /// Gives the room of the rows for blocks that are gone back.
+    pub(crate) fn trim(&mut self)
+        ensures blocks { self.new.blocks ≡ self.old.blocks }
+        ensures spare { self.new.spare ≡ self.old.spare }
+        ensures most { self.new.most ≡ self.old.most }
+        ensures memory { 0 < length self.old.blocks + self.old.spare → self.new.memory ≡ self.old.memory }
+    {
+        let total = self.total();
+        self.blocks.shrink_to(total);
+        self.spare.shrink_to(total);
+        if total == 0 {
+            self.memory = 0;
+        }
+    }
+
+    /// Gives memory of the only block back, in the row or spare: it is for so many entries then.
+    fn narrow(&mut self, memory: usize)
+        requires one { length self.old.blocks + self.old.spare ≡ 1 }
+        requires least { 4 ≤ memory }
+        requires less { memory < self.old.memory }
+        requires fits { length (line self.old.blocks) ≤ memory }
+        ensures blocks { self.new.blocks ≡ self.old.blocks }
+        ensures spare { self.new.spare ≡ self.old.spare }
+        ensures most { self.new.most ≡ self.old.most }
+        ensures memory { self.new.memory ≡ memory }
+    {
+        if self.blocks.len() != 0 {
+            let block = &mut self.blocks[0];
+            block.shrink(memory);
+        } else {
+            let block = &mut self.spare[0];
+            block.shrink(memory);
+        }
+        self.memory = memory;
+    }
+
+    /// Gives a spare block back.
+    fn free_one(&mut self)
+        requires { 0 < self.old.spare }
+        ensures blocks { self.new.blocks ≡ self.old.blocks }
+        ensures memory { self.new.memory ≡ self.old.memory }
+        ensures most { self.new.most ≡ self.old.most }
+        ensures spare { self.new.spare + 1 ≡ self.old.spare }
+    {
+        let block = self.spare.take_last();
+        block.free();
+    }
+
+    /// Gives all spare blocks back.
+    pub(super) fn shed(&mut self)
+        ensures blocks { self.new.blocks ≡ self.old.blocks }
+        ensures spare { self.new.spare ≡ 0 }
+    {
+        while 0 < self.spare() {
+            self.free_one();
+        }
+    }
+
+    /// Gives all memory of a row with no block back.
+    pub(crate) fn free(mut self)
+        requires { self.blocks ≡ [] }
+    {
+        self.shed();
+        let BlockRow {
+            blocks,
+            spare,
+            memory: _,
+            most: _,
+        } = self;
+        blocks.destroy_empty();
+        spare.destroy_empty();
+    }
+
+    /// Returns the blocks of the row. The spare ones go back.
+    pub(crate) fn into_blocks(mut self) -> Vec<Block<E>>
+        ensures value { rows result.items ≡ self.blocks }
+        ensures filled { All (λ b. 0 < length b.entries) result.items }
+    {
+        self.shed();
+        let BlockRow {
+            blocks,
+            spare,
+            memory: _,
+            most: _,
+        } = self;
+        spare.destroy_empty();
+        blocks
+    }
+}
