@@ -67,6 +67,7 @@ impl Cache {
         requires { 0 < limit }
         ensures empty { IfOk result (λ c. bag c.pages ≡ []) }
         ensures limit { IfOk result (λ c. c.limit ≡ limit) }
+        ensures memory { IfOk result (λ c. c.pages.capacity ≡ limit) }
     {
         Ok(Cache {
             pages: TriHashMap::with_capacity(alloc, limit)?,

@@ -1,5 +1,5 @@
 -- What the lines of a journal say, and which devices they leave.
-use Rattle.std.specs.Prelude.{◌≡◌, ◌<◌, ◌^◌, ℕ, Bool, ◌==◌, List, [], ◌∷◌, ◌++◌, Some, codes, flat_map, IsPermutation}
+use Rattle.std.specs.Prelude.{◌≡◌, ◌<◌, ◌^◌, ℕ, Bool, ◌==◌, false, List, [], ◌∷◌, ◌++◌, Some, codes, flat_map, IsPermutation}
 use Rattle.std.specs.Fmt.{decimal}
 use Rattle.std.specs.List.{AllByRecursion, list_any}
 use Rattle.iddqd_bi.specs.Bag.{IsOnly}
@@ -27,6 +27,15 @@ device_of (Unplug d) = d
 -- Its numbers are those of a `u64` and of a `u16`.
 abbrev pub InRange : Change → Type 0
 InRange c = ((device_of c).serial < 2 ^ 64) × ((device_of c).port < 2 ^ 16)
+
+-- The bytes are the first ones of a line, or all of it.
+-- Example: `unplug 10` begins the line `unplug 1001 7`. `plug in` and `plug 007` begin none.
+abbrev pub Begins : List ℕ → Type 0
+Begins bytes = (change : Change) × (rest : List ℕ) × (bytes ++ rest ≡ line_of change) × InRange change
+
+-- The bytes are what a crash may leave of a line that was being written: the first ones, without its end.
+abbrev pub IsTorn : List ℕ → Type 0
+IsTorn bytes = (has_end bytes ≡ false) × Begins bytes
 
 -- The change leads from these devices to those, in any order.
 abbrev pub Makes : List Device → Change → List Device → Type 0

@@ -2,7 +2,7 @@
 ghost use Rattle.std.specs.Prelude.{◌≡◌, ◌≤◌, ◌++◌, true, false, List, [], ℕ, length, take, drop, flat_map, IfOk, IfSome, string_bytes};
 ghost use Rattle.std.specs.List.{AllByRecursion};
 ghost use Rattle.iddqd_bi.specs.Map.{bag};
-ghost use Rattle.example_journal.specs.Changes.{InRange, Leads, Makes, Tells, has_end, line_of};
+ghost use Rattle.example_journal.specs.Changes.{Begins, InRange, IsTorn, Leads, Makes, Tells, line_of};
 ghost use Rattle.example_journal.specs.declared.changes.Device.{Device};
 ghost use Rattle.example_journal.specs.declared.changes.Change.{Change};
 
@@ -66,17 +66,27 @@ fn parse(line: &[u8]) -> Option<Change> {
     })
 }
 
+/// Returns the change whose line this is, letter by letter, if there is one.
+fn read_line(alloc: Global, line: &[u8]) -> io::Result<Option<Change>>
+    ensures { IfOk result (λ read. IfSome read (λ change. (line.now ≡ line_of change) × InRange change)) }
+{
+    let Some(change) = parse(line) else {
+        return Ok(None);
+    };
+    if write_line(alloc, change)?.as_bytes() != line {
+        return Ok(None);
+    }
+    Ok(Some(change))
+}
+
 /// Makes the change whose line this is, letter by letter, and returns whether there is one that can be made.
 fn make(alloc: Global, devices: &mut BiHashMap<Device>, line: &[u8]) -> io::Result<bool>
     ensures { IfOk result (λ made. made ≡ true → (change : Change) × (line.now ≡ line_of change) × InRange change
         × Makes (bag devices.old) change (bag devices.new)) }
 {
-    let Some(change) = parse(line) else {
+    let Some(change) = read_line(alloc, line)? else {
         return Ok(false);
     };
-    if write_line(alloc, change)?.as_bytes() != line {
-        return Ok(false);
-    }
     match change {
         Change::Plug(device) => {
             devices.reserve(1)?;
@@ -89,10 +99,28 @@ fn make(alloc: Global, devices: &mut BiHashMap<Device>, line: &[u8]) -> io::Resu
     }
 }
 
+/// What makes a line of its first bytes: the rest of the word, and a number for each that is not there. Where a part of a number
+/// is there, no digit has to follow.
+const ENDING: &[u8] = b"unplug 0 0\n";
+
+/// Returns whether these bytes can be the first ones of a line: whether they and the last bytes of `ENDING` are a line.
+fn begins_line(alloc: Global, bytes: &[u8]) -> io::Result<bool>
+    ensures { IfOk result (λ begins. begins ≡ true → Begins bytes.now) }
+{
+    for at in 0..ENDING.len() {
+        let mut line = bytes.to_vec(alloc)?;
+        line.extend_from_slice(&ENDING[at..])?;
+        if read_line(alloc, line.as_slice())?.is_some() {
+            return Ok(true);
+        }
+    }
+    Ok(false)
+}
+
 /// Loads the devices that the lines of a journal leave, and returns how long these lines are. Behind them is a torn
-/// line, which has no end.
+/// line: the first bytes of a line, without its end.
 pub fn load(alloc: Global, bytes: &[u8]) -> Result<(BiHashMap<Device>, usize), Failure>
-    ensures { IfOk result (λ r. (r.1 ≤ length bytes.now) × (has_end (drop r.1 bytes.now) ≡ false)
+    ensures { IfOk result (λ r. (r.1 ≤ length bytes.now) × IsTorn (drop r.1 bytes.now)
         × Tells (take r.1 bytes.now) (bag r.0)) }
 {
     // The first line plugs a device in. A text that does not begin so, nor is a part of such a line, is no journal.
@@ -109,6 +137,9 @@ pub fn load(alloc: Global, bytes: &[u8]) -> Result<(BiHashMap<Device>, usize), F
             return Err(Failure::Damaged(at));
         }
         at += line.len();
+    }
+    if !begins_line(alloc, &bytes[at..])? {
+        return Err(Failure::Damaged(at));
     }
     Ok((devices, at))
 }

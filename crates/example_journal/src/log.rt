@@ -50,36 +50,49 @@ impl Log for Vec<u8> {
     }
 }
 
-/// A log on a disk that may get full, to try what comes then. Whoever has the cell says how many more bytes it takes.
+/// A disk that may get full or broken, to try what comes then.
+#[derive(Drop)]
+pub struct Disk {
+    /// How many more bytes it takes.
+    pub room: Cell<usize>,
+    /// How many more times it can be read.
+    pub reads: Cell<usize>,
+}
+
+/// A log on such a disk.
 #[derive(Drop)]
 pub struct Limited<'a, L: Log + Drop> {
     pub log: L,
-    pub room: &'a Cell<usize>,
+    pub disk: &'a Disk,
 }
 
 impl<L: Log + Drop> Log for Limited<'_, L> {
     ghost kept = { λ l. L.kept l.log };
 
     fn read(&self, alloc: Global) -> io::Result<Vec<u8>> {
+        let Some(reads) = self.disk.reads.get().checked_sub(1) else {
+            return Err(io::ErrorKind::TimedOut.into());
+        };
+        self.disk.reads.set(reads);
         self.log.read(alloc)
     }
 
     fn write(&mut self, at: usize, bytes: &[u8]) -> io::Result<()> {
-        let room = self.room.get();
+        let room = self.disk.room.get();
         if bytes.len() > room {
             self.log.write(at, bytes.split_at(room).0)?;
             return Err(io::ErrorKind::StorageFull.into());
         }
-        self.room.set(room - bytes.len());
+        self.disk.room.set(room - bytes.len());
         self.log.write(at, bytes)
     }
 
     fn replace(&mut self, bytes: Vec<u8>) -> io::Result<()> {
-        let room = self.room.get();
+        let room = self.disk.room.get();
         if bytes.len() > room {
             return Err(io::ErrorKind::StorageFull.into());
         }
-        self.room.set(room - bytes.len());
+        self.disk.room.set(room - bytes.len());
         self.log.replace(bytes)
     }
 }
@@ -100,13 +113,15 @@ fn open(rt: &HostRuntime, path: &str) -> io::Result<File> {
         .open(rt, path)
 }
 
-/// Puts these bytes behind the first `at` of the file of this name, and waits until they are on the disk.
-fn write_file(rt: &HostRuntime, path: &str, at: usize, bytes: &[u8]) -> io::Result<()> {
-    let mut file = open(rt, path)?;
-    // A shorter file would grow.
-    file.set_len(file.metadata()?.len().min(at as u64))?;
-    file.write_all(bytes)?;
-    file.sync_all()
+/// Makes a file of this name, where there is none, with these bytes, and waits until they are on the disk.
+pub fn create(rt: &HostRuntime, path: &str, bytes: &[u8]) -> io::Result<()> {
+    let mut file = OpenOptions::new()
+        .write(true)
+        .create_new(true)
+        .open(rt, path)?;
+    let written = file.write_all(bytes).and_then(|()| file.sync_all());
+    // A part of the file would take room from others.
+    written.inspect_err(|_| drop(fs::remove_file(rt, path)))
 }
 
 impl Log for FileLog<'_> {
@@ -120,7 +135,11 @@ impl Log for FileLog<'_> {
     }
 
     fn write(&mut self, at: usize, bytes: &[u8]) -> io::Result<()> {
-        write_file(self.rt, self.path.as_str(), at, bytes)?;
+        let mut file = open(self.rt, self.path.as_str())?;
+        // A shorter file would grow.
+        file.set_len(file.metadata()?.len().min(at as u64))?;
+        file.write_all(bytes)?;
+        file.sync_all()?;
         // After a crash the name leads to the file only if the folder is on the disk too.
         match Path::new(self.path.as_str()).parent() {
             Some(folder) if !folder.as_str().is_empty() => File::open(self.rt, folder)?.sync_all(),
@@ -128,12 +147,12 @@ impl Log for FileLog<'_> {
         }
     }
 
+    // The name of the new file may be that of another file of the user's, which stays, and nothing is replaced.
     // After a crash the name may still lead to the old file, which says the same. A later line waits for the folder.
     fn replace(&mut self, bytes: Vec<u8>) -> io::Result<()> {
         let new = format!(in self.rt.alloc(); "{}.new", self.path)?;
-        let written = write_file(self.rt, new.as_str(), 0, bytes.as_slice());
-        let replaced = written.and_then(|()| fs::rename(self.rt, new.as_str(), self.path.as_str()));
-        // A part of the new file would take room from the old one.
+        create(self.rt, new.as_str(), bytes.as_slice())?;
+        let replaced = fs::rename(self.rt, new.as_str(), self.path.as_str());
         replaced.inspect_err(|_| drop(fs::remove_file(self.rt, new.as_str())))
     }
 }

@@ -6,12 +6,17 @@
 //!     list                each device as SERIAL PORT, by the serial numbers, and `end`
 //!     journal             the bytes of the journal, as a TEXT
 //!     compact             compacted
+//!     copy NAME           writes these bytes to a new file of that name: copied
 //!     crash N [TEXT]      puts TEXT behind the first N bytes of the journal, and opens it again: as `open`
 //!     room N              from now on the disk has room for N more bytes: set
+//!     reads N             from now on the disk can be read N more times: set
 //!     open                opens the journal again, as at the start: opened, N torn bytes cut off | damaged at byte N
 //!
 //! In a TEXT, which is one word, `_` is a space, `/` the end of a line, and `?` a byte 0. A command may be answered by `failed` and
 //! why. If nobody knows what the journal has, or it did not open, it is closed: a change is answered by `closed` then.
+//!
+//! Beside a journal in the file NAME, `compact` makes the file NAME.new, and then gives it the name NAME. If there is a NAME.new,
+//! `compact` is answered by `failed: File exists ..`, and both files stay as they are.
 #![tactic(auto)]
 
 mod changes;
@@ -19,7 +24,7 @@ mod log;
 mod registry;
 
 use crate::changes::Device;
-use crate::log::{FileLog, Limited, Log};
+use crate::log::{Disk, FileLog, Limited, Log, create};
 use crate::registry::{Failure, Registry};
 use iddqd_bi::BiHashMap;
 use std::alloc::Global;
@@ -62,7 +67,7 @@ fn list(rt: &HostRuntime, devices: &BiHashMap<Device>) -> io::Result<()> {
 fn answer<L: Log + Drop>(
     rt: &HostRuntime,
     registry: &mut Registry<L>,
-    room: &Cell<usize>,
+    disk: &Disk,
     words: &[&str],
 ) -> Result<(), Failure> {
     Ok(match words {
@@ -84,6 +89,10 @@ fn answer<L: Log + Drop>(
             registry.compact()?;
             rt.println("compacted")?
         }
+        ["copy", name] => {
+            create(rt, name, registry.read()?.as_slice())?;
+            rt.println("copied")?
+        }
         ["crash", len, text @ ..] => {
             let text = swapped(rt.alloc(), text.first().copied().unwrap_or("").as_bytes())?;
             let torn = registry.crash(number(len)?, text.as_slice())?;
@@ -91,7 +100,11 @@ fn answer<L: Log + Drop>(
         }
         ["open"] => println!(rt; "opened, {} torn bytes cut off", registry.open()?)?,
         ["room", len] => {
-            room.set(number(len)?);
+            disk.room.set(number(len)?);
+            rt.println("set")?
+        }
+        ["reads", count] => {
+            disk.reads.set(number(count)?);
             rt.println("set")?
         }
         _ => rt.println("bad line")?,
@@ -101,13 +114,16 @@ fn answer<L: Log + Drop>(
 /// Opens the journal in this log, and answers each line of the input.
 fn serve<L: Log + Drop>(rt: &HostRuntime, log: L) -> io::Result<()> {
     let alloc = rt.alloc();
-    let room = Cell::new(usize::MAX);
-    let mut registry = Registry::new(alloc, Limited { log, room: &room });
+    let disk = Disk {
+        room: Cell::new(usize::MAX),
+        reads: Cell::new(usize::MAX),
+    };
+    let mut registry = Registry::new(alloc, Limited { log, disk: &disk });
     for line in b"open\n".as_slice().chain(rt.reader()).split(alloc, b'\n') {
         let line = line?;
         let text = str::from_utf8(line.as_slice()).unwrap_or("");
         let words: Vec<&str> = text.split_whitespace().collect(alloc)?;
-        match answer(rt, &mut registry, &room, words.as_slice()) {
+        match answer(rt, &mut registry, &disk, words.as_slice()) {
             Ok(()) => {}
             Err(Failure::Taken) => rt.println("taken")?,
             Err(Failure::NoDevice) => rt.println("none")?,

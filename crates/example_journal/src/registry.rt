@@ -1,10 +1,10 @@
 //! A registry of devices whose changes are in a journal: each is a line of a log, which is written and synced before it is made.
-ghost use Rattle.std.specs.Prelude.{◌≡◌, ◌≢◌, ◌∷◌, ◌++◌, ◌==◌, ◌+◌, ℕ, List, [], true, false, Some, length, IsPermutation, IsErrOf, OnOk, OnErr, IfOk, IfSome, option_map};
+ghost use Rattle.std.specs.Prelude.{◌≡◌, ◌≢◌, ◌∷◌, ◌++◌, ◌==◌, ◌+◌, ℕ, List, [], true, false, Some, length, take, drop, ◌⊎◌, IsPermutation, IsErrOf, OnOk, OnErr, IfOk, IfSome, option_map};
 ghost use Rattle.std.specs.List.{list_any};
 ghost use Rattle.std.specs.Option.{ForSome};
 ghost use Rattle.iddqd_bi.specs.Bag.{IsOnly, clash};
 ghost use Rattle.iddqd_bi.specs.Map.{bag};
-ghost use Rattle.example_journal.specs.Changes.{InRange, Tells, has_end, line_of};
+ghost use Rattle.example_journal.specs.Changes.{InRange, IsTorn, Tells, line_of};
 ghost use Rattle.example_journal.specs.declared.changes.Change.{Change};
 ghost use Rattle.example_journal.specs.declared.registry.Failure.{Failure};
 
@@ -65,11 +65,15 @@ impl<L: Log + Drop> Registry<L> {
     /// Returns how many bytes were cut off. After an error the journal is closed, and there are no devices.
     pub fn open(&mut self) -> Result<usize, Failure>
         ensures opened { OnOk result (self.new.is_open ≡ true) }
-        ensures kept { IfOk result (λ n. (torn : List ℕ) × (length torn ≡ n) × (has_end torn ≡ false)
+        ensures kept { IfOk result (λ n. (torn : List ℕ) × (length torn ≡ n) × IsTorn torn
             × (L.kept self.old.log ≡ option_map (λ lines. lines ++ torn) (L.kept self.new.log))) }
         ensures closed { OnErr result (self.new.is_open ≡ false) }
         ensures none { OnErr result (bag self.new.devices ≡ []) }
         ensures untouched { (at : ℕ) → IsErrOf result (Failure.Damaged at) → L.kept self.new.log ≡ L.kept self.old.log }
+        // After any error the log has what it had, or its whole lines with anything in the place of the torn one.
+        ensures safe { OnErr result ((L.kept self.new.log ≡ L.kept self.old.log) ⊎ ((len : ℕ) × (part : List ℕ)
+            × (L.kept self.new.log ≡ option_map (λ here. take len here ++ part) (L.kept self.old.log))
+            × IfSome (L.kept self.old.log) (λ here. IsTorn (drop len here)))) }
     {
         self.is_open = false;
         self.devices.clear();
@@ -91,7 +95,9 @@ impl<L: Log + Drop> Registry<L> {
         ensures in_range { OnOk result (InRange change) }
         ensures was_open { OnOk result (self.old.is_open ≡ true) }
         ensures same_lines { OnErr result (self.new.is_open ≡ true → L.kept self.new.log ≡ L.kept self.old.log) }
-        ensures other { (IsErrOf result Failure.Taken → ⊥) × (IsErrOf result Failure.NoDevice → ⊥) }
+        ensures other { (IsErrOf result Failure.Taken → ⊥) × (IsErrOf result Failure.NoDevice → ⊥)
+            × (IsErrOf result Failure.Closed → self.new.is_open ≡ false) }
+        ensures left { self.old.is_open ≡ false → L.kept self.new.log ≡ L.kept self.old.log }
     {
         if !self.is_open {
             return Err(Failure::Closed);
@@ -120,6 +126,8 @@ impl<L: Log + Drop> Registry<L> {
         ensures same_lines { OnErr result (self.new.is_open ≡ true → L.kept self.new.log ≡ L.kept self.old.log) }
         ensures taken { IsErrOf result Failure.Taken
             → clash ⟦<Device as Ranked>⟧.ranks (bag self.old.devices) device ≢ [] }
+        ensures other { (IsErrOf result Failure.NoDevice → ⊥) × (IsErrOf result Failure.Closed → self.new.is_open ≡ false) }
+        ensures left { self.old.is_open ≡ false → L.kept self.new.log ≡ L.kept self.old.log }
     {
         if !self.devices.conflicts_with(&device).is_empty() {
             return Err(Failure::Taken);
@@ -143,6 +151,8 @@ impl<L: Log + Drop> Registry<L> {
         ensures same_lines { OnErr result (self.new.is_open ≡ true → L.kept self.new.log ≡ L.kept self.old.log) }
         ensures no_device { IsErrOf result Failure.NoDevice
             → list_any (λ d. serial == d.serial) (bag self.old.devices) ≡ false }
+        ensures other { (IsErrOf result Failure.Taken → ⊥) × (IsErrOf result Failure.Closed → self.new.is_open ≡ false) }
+        ensures left { self.old.is_open ≡ false → L.kept self.new.log ≡ L.kept self.old.log }
     {
         let Some(device) = self.devices.get1(&serial).copied() else {
             return Err(Failure::NoDevice);
@@ -156,6 +166,7 @@ impl<L: Log + Drop> Registry<L> {
     /// Puts one line for each device in the place of all lines.
     pub fn compact(&mut self) -> Result<(), Failure>
         ensures same_devices { self.new.devices ≡ self.old.devices }
+        ensures was_open { OnOk result (self.old.is_open ≡ true) }
         ensures same_lines { OnErr result (L.kept self.new.log ≡ L.kept self.old.log) }
     {
         if !self.is_open {

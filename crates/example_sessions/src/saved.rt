@@ -111,6 +111,7 @@ impl Saved {
         ensures added { OnOk result (self.new.sessions.items ≡ self.old.sessions.items ++ session ∷ []) }
         ensures same { OnErr result (self.new.sessions.items ≡ self.old.sessions.items) }
         ensures lines { OnOk result (self.new.lines.items ≡ self.old.lines.items ++ line ∷ []) }
+        ensures same_lines { OnErr result (self.new.lines.items ≡ self.old.lines.items) }
     {
         self.lines.push(line)?;
         if self.sessions.push(session).is_err() {

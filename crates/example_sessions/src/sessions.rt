@@ -122,7 +122,8 @@ pub fn touch(sessions: &mut Sessions, token: u64, now: u64) -> bool
 
 /// Closes the sessions that have not been seen since this time.
 pub fn expire(sessions: &mut Sessions, since: u64)
-    ensures { IsPermutation (bag sessions.new) (filter (λ s. nat_le since s.seen) (bag sessions.old)) }
+    ensures closed { IsPermutation (bag sessions.new) (filter (λ s. nat_le since s.seen) (bag sessions.old)) }
+    ensures capacity { sessions.new.capacity ≡ sessions.old.capacity }
 {
     sessions.retain(|session| session.seen >= since);
 }

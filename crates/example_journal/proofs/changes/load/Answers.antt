@@ -6,13 +6,13 @@ use Rattle.example_journal.proofs.Lines.{tells-more}
 use Rattle.example_journal.proofs.changes.load.Goals as goal
 
 -- one line more
-pub loop-alloc-preserved : goal.loop-alloc-preserved
-loop-alloc-preserved c =
-    let at = c.loop-alloc.at in
+pub loop-rest-preserved : goal.loop-rest-preserved
+loop-rest-preserved c =
+    let at = c.loop-rest.at in
     let bytes = c.args.bytes.now in
     let line = c.split_at.result.0.now in
     let made = c.in_ok-make.ensures c.if-not-branch.false in
     let read : line ≡ take (length line) (drop at bytes) = search (rules, take_all {A = ℕ}, length-drop at bytes) in (
       omega (arith, length-drop at bytes, ap length read, length-take (length line) (drop at bytes)),
-      rw (take-add, ← read, made.1) (tells-more (take at bytes) (bag c.loop-alloc.devices) (bag c.make.new.devices) made.0 c.loop-alloc.invariant.1 made.2 made.3),
+      rw (take-add, ← read, made.1) (tells-more (take at bytes) (bag c.loop-rest.devices) (bag c.make.new.devices) made.0 c.loop-rest.invariant.1 made.2 made.3),
     )

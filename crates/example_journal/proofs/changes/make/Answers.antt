@@ -12,4 +12,4 @@ returns-in-Some-remove1 c = λ same.
     let first : gone ∷ [] ≡ filter (λ (d : Device). device.serial == d.serial) (bag c.args.devices.now) = c.in-Some-remove1.ensures.taken in
     let serial : gone.serial ≡ device.serial = search (rules, given-has (λ (d : Device). device.serial == d.serial) (bag c.args.devices.now) gone first) in
     let it : gone ≡ device = ap (λ n. record { serial = n; port = gone.port }) serial ∙ ap (λ n. record { serial = device.serial; port = n }) (search (rules, same)) in
-    (c.in-Some.change, search rules, c.write_line.ensures.in_range, rw c.in-Unplug.is (rw it at first, rw it at c.in-Some-remove1.ensures.loses.items))
+    (c.in-Some.change, search rules, search rules, rw c.in-Unplug.is (rw it at first, rw it at c.in-Some-remove1.ensures.loses.items))

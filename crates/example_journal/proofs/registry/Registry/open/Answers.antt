@@ -14,7 +14,8 @@ cut (Some here) new bytes len same is = (
 pub returns-clause-kept : goal.returns-clause-kept
 returns-clause-kept g c =
     let log = cut (g.L.Log.kept c.args.self.now.log) (g.L.Log.kept c.write.new.self) c.in_ok-bytes.bytes.items c.in_ok-devices.len c.in_ok-bytes.ensures c.in_ok-write.ensures.written in
-    (drop c.in_ok-devices.len c.in_ok-bytes.bytes.items, search (rules, length-drop c.in_ok-devices.len c.in_ok-bytes.bytes.items), search rules, log.0)
+    let load = rw c.as_slice.ensures.value at c.in_ok-devices.ensures in
+    (drop c.in_ok-devices.len c.in_ok-bytes.bytes.items, search (rules, length-drop c.in_ok-devices.len c.in_ok-bytes.bytes.items), load.1, log.0)
 
 pub invariant_of-self-2 : goal.invariant_of-self-2
 invariant_of-self-2 g c =
