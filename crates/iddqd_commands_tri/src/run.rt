@@ -32,7 +32,7 @@ pub trait TriCommands<T: TriHashItemMut> {
     /// Carries out the commands in order, and hands each reply to the sink. The run ends at the sink's first fault,
     /// which it returns. The run has carried out the command of that reply, and none after it.
     ///
-    /// Each command costs what its call does.
+    /// Each command costs what `apply` of it does.
     fn run<K: TriSink<T>>(
         &mut self,
         commands: Vec<TriCommand<T>>,
@@ -42,8 +42,8 @@ pub trait TriCommands<T: TriHashItemMut> {
     /// Carries out one command, and hands its reply to the sink. An error is a fault of the sink; the command was
     /// carried out nevertheless.
     ///
-    /// A command costs what its call does. An `InsertUnique` that is refused for a conflict searches once more, for the
-    /// items that its reply has.
+    /// A command costs what its call does, except an `InsertUnique` that is refused for a conflict: it hashes and
+    /// compares twice what `insert_unique` does, since it searches once more, for the items that its reply has.
     fn apply<K: TriSink<T>>(
         &mut self,
         command: TriCommand<T>,
