@@ -19,27 +19,27 @@ pub struct AllocError;
 pub struct String<A: Allocator = Global>(PhantomData<A>);
 
 /// A list. Calls that allocate return a `Result`.
-#[derive(PartialEq, Eq, Hash)]
+#[derive(PartialEq, Eq, PartialOrd, Ord, Hash)]
 pub struct Vec<T, A: Allocator = Global>(PhantomData<(T, A)>);
 
 /// A text in a box.
-#[derive(PartialEq, Eq, Hash)]
+#[derive(PartialEq, Eq, PartialOrd, Ord, Hash)]
 pub struct BoxedStr<A: Allocator = Global>(PhantomData<A>);
 
 /// A text with shared owners, which are counted.
-#[derive(PartialEq, Eq, Hash)]
+#[derive(PartialEq, Eq, PartialOrd, Ord, Hash)]
 pub struct RcStr<A: Allocator = Global>(PhantomData<A>);
 
 /// A text with shared owners, which threads count.
-#[derive(PartialEq, Eq, Hash)]
+#[derive(PartialEq, Eq, PartialOrd, Ord, Hash)]
 pub struct ArcStr<A: Allocator = Global>(PhantomData<A>);
 
 /// A text that is borrowed or owned.
-#[derive(PartialEq, Eq, Hash)]
+#[derive(PartialEq, Eq, PartialOrd, Ord, Hash)]
 pub struct CowStr<'a, A: Allocator = Global>(PhantomData<(&'a str, A)>);
 
 /// A slice in a box.
-#[derive(PartialEq, Eq, Hash)]
+#[derive(PartialEq, Eq, PartialOrd, Ord, Hash)]
 pub struct BoxedSlice<T, A: Allocator = Global>(PhantomData<(T, A)>);
 
 /// A type whose values may be dropped: `#[derive(Drop)]`.

@@ -15,6 +15,10 @@ import sys
 # The folder in which the script was begun.
 FROM = os.getcwd()
 os.chdir(os.path.join(os.path.dirname(os.path.abspath(__file__)), ".."))
+# A script that reads its own arguments says what its head says; argparse says more.
+if {"-h", "--help"} & {*sys.argv[1:]} and "argparse" not in sys.modules:
+    print(sys.modules["__main__"].__doc__)
+    sys.exit()
 HEAD = re.compile(r'( *)((?:(?:[a-z]+(?:\([^)]*\))?|"C") )*)fn (\w+)')
 
 
@@ -31,11 +35,15 @@ def write(path, text):
         file.write(text)
 
 
+def script():
+    """Returns the name of the script, by its path from the top of the repository."""
+    return os.path.relpath(os.path.join(FROM, sys.argv[0]))
+
+
 def finish(faults, *well):
     """Prints what is wrong, or else what is well, after the script's name, and ends the script with status 1 or 0."""
-    name = os.path.relpath(os.path.join(FROM, sys.argv[0]))
     for it in faults or well:
-        print(f"{name}: {it}")
+        print(f"{script()}: {it}")
     sys.exit(bool(faults))
 
 
@@ -46,14 +54,47 @@ def counts(kind):
 
 
 def kit():
-    """Returns the folder of the toolchain."""
-    return os.path.dirname(os.path.dirname(os.path.realpath(shutil.which("rt"))))
+    """Returns the folder of the toolchain. The script ends if there is none."""
+    found = shutil.which("rt")
+    if not found:
+        sys.exit(f"{script()}: `rt`, the command of the Rattle toolchain, is not on the path: README says under \"Run it\" what one needs")
+    return os.path.dirname(os.path.dirname(os.path.realpath(found)))
 
 
 def libraries(path="crates.txt"):
     """Returns each crate with the libraries that crates.txt, or a file of its form, names for it."""
     lines = (it for it in read(path).split("\n") if it and not it.startswith("#"))
     return {it.partition(":")[0].split()[0]: it.partition(":")[2].split() for it in lines}
+
+
+# What each crate of crates.txt is, for the scripts that go by it. A caller, a test and an example have that word in front of their name.
+KINDS = {
+    "iddqd_store": "store", "iddqd_id": "hash map", "iddqd_bi": "hash map", "iddqd_tri": "hash map", "iddqd_order": "order", "iddqd_ord": "ordered map",
+    "iddqd_commands": "commands", "iddqd_commands_bi": "commands", "iddqd_commands_tri": "commands",
+    "iddqd_serde_id": "serde", "iddqd_serde_bi": "serde", "iddqd_serde_tri": "serde", "iddqd_serde_ord": "serde",
+    "iddqd_text": "text program", "iddqd_run": "text program",
+}
+
+
+def kind_of(crate):
+    """Returns what a crate is: its kind by KINDS, or the word in front of its name."""
+    return KINDS.get(crate) or next((it for it in ("caller", "test", "example") if crate.startswith(f"{it}_")), None)
+
+
+def crates(*kinds, left_out=None):
+    """Returns the crates of crates.txt, in its order: those of these kinds, or else all that a script does not leave out. What it leaves out are
+    kinds or crates, each with the reason. The script ends if a crate is of no kind, has no folder, or has a folder and no line in crates.txt, and if
+    it leaves out or asks for what is not there: so no crate is passed over because a script does not know it."""
+    named, there = [*libraries()], {it.split("/")[1] for it in glob.glob("crates/*/src")}
+    known = {*named, *map(kind_of, named)}
+    faults = [f"crates.txt has {it}, and KINDS of tests/sources.py does not say what it is" for it in named if not kind_of(it)]
+    faults += [f"crates.txt has no line for crates/{it}" for it in sorted(there - {*named})]
+    faults += [f"crates.txt has {it}, and there is no crates/{it}/src" for it in named if it not in there]
+    faults += [f"KINDS of tests/sources.py has {it}, and crates.txt does not" for it in KINDS if it not in named]
+    faults += [f"{it} is named where crates are chosen, and no crate is one, or is called so" for it in (*kinds, *(left_out or ())) if it not in known]
+    if faults:
+        finish(faults)
+    return [it for it in named if (kind_of(it) in kinds if kinds else not {it, kind_of(it)} & {*(left_out or ())})]
 
 
 def below(crate, named):

@@ -3,10 +3,14 @@ import collections
 import itertools
 import re
 
-from sources import files, functions, read
+from sources import crates, files, functions, kind_of, read
 import widen
 
-SPECS, CRATES = "specs/**/*.antt", ("iddqd_store", "iddqd_bi", "iddqd_tri", "iddqd_id", "iddqd_ord")
+# The crates whose words and labels are read, the store first, and those of which only one is: what is left out, with the reason.
+LEFT_OUT = {"text program": "its contracts cite the words of the commands", **dict.fromkeys(("caller", "test", "example"), "its words are its own")}
+MADE = dict.fromkeys(("iddqd_tri", "iddqd_commands_tri", "iddqd_serde_id", "iddqd_serde_tri"), "tests/widths makes its words from those of the two-key text")
+INNER = dict.fromkeys(("store", "order"), "the page is for callers of a map; whoever changes one reads these labels beside their functions")
+SPECS, CRATES = "specs/**/*.antt", crates(left_out=LEFT_OUT)
 # A public definition below its comment, up to an empty line or the next comment; and what a module around definitions gives them.
 DEFINITION = re.compile(r"(?P<comment>(?:^ *--.*\n)*)^(?P<indent> *)(?P<kind>abbrev pub|pub record|pub data|pub) "
                         r"(?!use|mod)(?P<name>[^\W\d_][\w-]*)(?P<rest>.*(?:\n(?! *--) *\S.*)*)", re.M)
@@ -89,8 +93,8 @@ def words_of(path):
 
 
 def all_words():
-    """The words of the store, of the two-key map, of the one-key map and of the ordered one, by their files as lists name them."""
-    paths = sorted(it for crate in ("iddqd_store", "iddqd_bi", "iddqd_id", "iddqd_ord") for it in files(crate, SPECS))
+    """The words of these crates, but for those that are made, by their files as lists name them."""
+    paths = sorted(it for crate in crates(left_out={**LEFT_OUT, **MADE}) for it in files(crate, SPECS))
     return {it[len("crates/"):-len(".antt")].replace("/specs/", "/"): words_of(it) for it in paths}
 
 
@@ -134,7 +138,7 @@ def faults(words):
         if it.example and not it.example.endswith("."):
             yield f"{it.file}: the example of {it.name} has to end with a full stop"
         for crate in (of for of in CRATES if it.name in cited[of]):
-            if UNCITED in it.meaning or UNCITED_BY_MAPS in it.meaning and crate != CRATES[0]:
+            if UNCITED in it.meaning or UNCITED_BY_MAPS in it.meaning and kind_of(crate) in ("hash map", "ordered map"):
                 yield f"{it.file}: the comment of {it.name} says that no clause cites it, and a contract of {crate} does"
     defined = {it["name"] for path in files("iddqd_*", SPECS) for it, _ in definitions(path) if it["kind"] != "pub"}
     for crate, name in ((crate, name) for crate in CRATES for name in others(cited[crate] & defined, told)):
@@ -146,7 +150,8 @@ def faults(words):
     section = re.search(r"^## Labels of clauses\n(.*?)^## ", page, re.M | re.S)[1]
     rows = [it for row in re.findall(r"^\| (.*?) \|", section, re.M) for it in re.findall(r"`(\w+)`", row)]
     explained = {*rows}
-    stated = {it: [words for crate in CRATES[1:] for words in labels[crate].get(it, ())] for it in set().union(*(labels[it] for it in CRATES[1:]))}
+    outer = crates(left_out={**LEFT_OUT, **INNER})
+    stated = {it: [words for crate in outer for words in labels[crate].get(it, ())] for it in set().union(*(labels[it] for it in outer))}
     for it in others(stated, explained):
         if not all(any(word.startswith(it) for word in words) for words in stated[it]):
             yield f"docs/DEFINITIONS.md has no row for the label {it}, and a clause states no word that begins with it"
