@@ -17,7 +17,8 @@
 //!     --svg FILE      writes a picture of five operations at eight sizes
 //!     --memory        prints the bytes an item that the maps hold after they grew, and at most while they grow
 //!     --others        times text keys, items of 128 bytes and a random seed, with two keys, and nothing else
-//!     --ordered       times the ordered map beside a `BTreeMap`, and nothing else; with --memory, counts its bytes
+//!     --ordered       times the ordered map beside a `BTreeMap`, and nothing else; with --memory, counts its bytes; with
+//!                     --others, times it with items of 128 bytes and with text keys
 //!     --chosen        prints what keys with one home bucket cost under the default builder and a random seed
 mod by_hand;
 mod calls;
@@ -32,6 +33,7 @@ mod memory;
 mod one_by_hand;
 mod operations;
 mod ordered;
+mod ordered_others;
 mod others;
 mod picture;
 mod processors;
@@ -211,7 +213,7 @@ impl Wanted {
             let is_kind = match it.kind {
                 Kind::Held => false,
                 Kind::All => true,
-                Kind::Each | Kind::Anew => !self.growth,
+                Kind::Each | Kind::Anew | Kind::Own => !self.growth,
             };
             is_kind
                 && self.has_map(N)
@@ -244,7 +246,12 @@ impl Wanted {
     /// Measures the maps.
     fn maps(&self, sizes: &[usize]) -> Vec<Map> {
         let all = if self.ordered {
-            vec![self.measured(ORDERED, ordered::operations(), sizes)]
+            let operations = if self.others {
+                ordered_others::operations()
+            } else {
+                ordered::operations()
+            };
+            vec![self.measured(ORDERED, operations, sizes)]
         } else if self.others {
             vec![self.measured(map_name(2), others::operations(), sizes)]
         } else {
@@ -262,6 +269,7 @@ impl Wanted {
         let sizes = self.sizes(match () {
             () if self.growth => &[1_000, 10_000, 100_000, 1_000_000],
             () if self.page => &ON_PAGE,
+            () if self.ordered && self.others => &ordered_others::SIZES,
             () if self.ordered => &ordered::SIZES,
             () => &SIZES,
         });
@@ -307,7 +315,11 @@ fn run_once(words: &mut impl Iterator<Item = String>) {
 
 #[cfg(feature = "counts")]
 fn print_memory(wanted: &Wanted) {
-    let sizes = wanted.sizes(&memory::SIZES);
+    let sizes = wanted.sizes(if wanted.ordered {
+        &ordered::SIZES
+    } else {
+        &memory::SIZES
+    });
     if wanted.ordered {
         let columns = memory::columns(ORDERED, &ordered::operations(), &sizes);
         memory::print(&columns, &sizes);

@@ -19,6 +19,8 @@ pub struct Load<const N: usize> {
     number: usize,
     room: usize,
     whole: bool,
+    /// The handle of the clock has no bytes.
+    clock: *const (),
 }
 
 /// A loop of the library, which returns a sum of what it met. If it is not to do the whole, it does only what prepares
@@ -39,6 +41,7 @@ impl<const N: usize> Workload<N> {
             number: self.number,
             room: self.room,
             whole,
+            clock: &(),
         };
         unsafe { exported(&load) }
     }
@@ -54,6 +57,9 @@ pub enum Kind {
     /// As the others, with each turn of each side in a process of its own. So no memory that an earlier loop freed is
     /// used again, and glibc's malloc is as a program finds it: it returns large blocks to the system.
     Anew,
+    /// What the loop times itself, which returns nanoseconds in the place of a sum. If it is only to be prepared, it does the
+    /// same, and returns a sum.
+    Own,
     /// Not timed: its bytes are counted.
     Held,
 }

@@ -2,16 +2,22 @@
 //! the key to the item, which has the key again.
 use crate::calls::{sum_of, told};
 use crate::loops::{asked, each_map};
+use crate::measure::ran;
 use crate::operations::{Kind, Operation, exported};
 use crate::workload::{Row, Workload};
 use crate::workload::{
-    asked_again, exchanged, fresh, grown, missed, reordered, repeated, shuffled,
+    asked_again, exchanged, fresh, grown, missed, reordered, repeated, rows, shuffled,
 };
+use std::cmp::Reverse;
 use std::collections::BTreeMap;
 use std::collections::btree_map::Entry;
+use std::hint::black_box;
 
 /// The numbers of items.
-pub const SIZES: [usize; 4] = [100, 1_000, 10_000, 100_000];
+pub const SIZES: [usize; 5] = [100, 1_000, 10_000, 100_000, 1_000_000];
+
+/// The number of items in a range.
+const RANGE: usize = 100;
 
 type Map = BTreeMap<u64, Row<1>>;
 
@@ -47,6 +53,34 @@ fn insert(load: &Workload<1>, whole: bool) -> u64 {
         let map = filled(if whole { rows } else { &[] });
         said(map.values().next().copied())
     })
+}
+
+/// How many maps are filled to find out what each insert takes at least.
+const FILLS: usize = 3;
+
+/// Inserts the rows into a new map, and writes down the nanoseconds of each insert where they are fewer than those before.
+fn time_each(rows: &[Row<1>], least: &mut [u64]) {
+    let mut map = Map::new();
+    let mut before = ran();
+    for (row, least) in rows.iter().zip(least) {
+        enter(&mut map, row);
+        let after = ran();
+        *least = (after - before).min(*least);
+        before = after;
+    }
+}
+
+/// Returns the nanoseconds of the longest insert, each of which counts as what it took at least, or, if the loop is only
+/// prepared, what `insert` returns.
+fn longest(load: &Workload<1>, whole: bool) -> u64 {
+    if !whole {
+        let mut map = Map::new();
+        let refused = fill(&mut map, &load.rows);
+        return refused.wrapping_add(said(map.values().next().copied()));
+    }
+    let mut least = vec![u64::MAX; load.rows.len()];
+    (0..FILLS).for_each(|_| time_each(&load.rows, &mut least));
+    least.into_iter().fold(0, u64::max)
 }
 
 fn grow(load: &Workload<1>, _: bool) -> u64 {
@@ -92,6 +126,42 @@ fn iter(load: &Workload<1>, whole: bool) -> u64 {
     sum_of((0..times).map(|_| sum_of(map.values().map(|row| row.keys[0]))))
 }
 
+fn clones(load: &Workload<1>, map: &Map) -> Vec<Map> {
+    (0..load.number).map(|_| map.clone()).collect()
+}
+
+/// Returns how many nanoseconds an iteration over clones took, or, if the loop is only prepared, the sum of the keys.
+fn by_value(load: &Workload<1>, whole: bool) -> u64 {
+    let copies = clones(load, &filled(&load.rows));
+    let before = ran();
+    let keys = copies.into_iter().flat_map(Map::into_values);
+    let sum = black_box(sum_of(keys.map(|row| row.keys[0])));
+    let took = ran() - before;
+    if whole { took } else { sum }
+}
+
+/// Returns how many nanoseconds the clones took, or, if the loop is only prepared, how many items they have.
+fn clone(load: &Workload<1>, whole: bool) -> u64 {
+    let map = filled(&load.rows);
+    let before = ran();
+    let copies = black_box(clones(load, &map));
+    let took = ran() - before;
+    if whole {
+        return took;
+    }
+    sum_of(copies.iter().map(|copy| copy.len() as u64))
+}
+
+fn retain(load: &Workload<1>, whole: bool) -> u64 {
+    each_map(load, |rows, _| {
+        let mut map = filled(rows);
+        if whole {
+            map.retain(|_, row| row.keys[0] % 2 == 0);
+        }
+        map.len() as u64
+    })
+}
+
 fn range(load: &Workload<1>, whole: bool) -> u64 {
     let map = filled(&load.rows);
     let pairs = asked(load, whole).chunks_exact(2);
@@ -107,19 +177,38 @@ fn ascending(mut load: Workload<1>) -> Workload<1> {
     load
 }
 
-/// One map, and pairs of rows, between which there are a hundredth of its items. The operations are counted by the items
-/// that are met.
-fn hundredths(items: usize) -> Workload<1> {
+/// Returns the same maps, each filled in the opposite order.
+fn descending(mut load: Workload<1>) -> Workload<1> {
+    load.rows.sort_by_key(|row| Reverse(row.keys[0]));
+    load
+}
+
+/// One map, and how often it is cloned.
+fn cloned(items: usize) -> Workload<1> {
+    let number = (20_000 / items).max(1);
+    Workload::new(rows(0, items), Vec::new(), number, items * number)
+}
+
+/// One map, of whose inserts only the longest counts.
+fn counted_once(items: usize) -> Workload<1> {
+    Workload::new(rows(0, items), Vec::new(), items, 1)
+}
+
+/// One map, and pairs of rows that bound a hundred of its items each. The operations are counted by the items that are met.
+fn hundreds(items: usize) -> Workload<1> {
     let mut load = grown(items);
     let sorted = ascending(grown(items)).rows;
-    let part = items.div_ceil(100);
-    let begins: Vec<usize> = (0..items - part).collect();
-    let pairs = (2_000_000 / part).min(40_000);
-    let drawn = (0..).flat_map(|round| shuffled(&begins, round)).take(pairs);
-    load.asked = drawn
-        .flat_map(|at| [sorted[at], sorted[at + part]])
+    let part = RANGE.min(items);
+    let begins: Vec<usize> = (0..=items - part).collect();
+    let drawn = (0..).flat_map(|round| shuffled(&begins, round));
+    // The upper bound is a key that no item has.
+    let mut end = sorted.clone();
+    end.iter_mut().for_each(|row| row.keys[0] += 1);
+    let pairs = drawn.take(20_000);
+    load.asked = pairs
+        .flat_map(|at| [sorted[at], end[at + part - 1]])
         .collect();
-    load.operations = pairs * part;
+    load.operations = load.asked.len() / 2 * part;
     load
 }
 
@@ -141,14 +230,19 @@ macro_rules! operations {
 operations! {
     Held "bytes": grown, grow;
     Held "bytes, ascending": |items| ascending(grown(items)), grow;
-    Each "insert": fresh, insert;
-    Each "insert, ascending": |items| ascending(fresh(items)), insert;
     Each "look-up, hit": asked_again, get;
     Each "look-up, miss": missed, get;
+    Each "insert": fresh, insert;
+    Each "insert, ascending": |items| ascending(fresh(items)), insert;
+    Each "insert, descending": |items| descending(fresh(items)), insert;
     Each "removal": reordered, remove;
     Each "removal and insert": exchanged, remove_insert;
     All "pop_first, all": fresh, pop_first;
     All "iter": repeated, iter;
     All "iter, filled ascending": |items| ascending(repeated(items)), iter;
-    All "range, a hundredth": hundredths, range;
+    All "range of 100 items": hundreds, range;
+    Own "by value, of a clone": cloned, by_value;
+    Own "clone": cloned, clone;
+    All "retain half": fresh, retain;
+    Own "longest insert": counted_once, longest;
 }
