@@ -1,6 +1,6 @@
 //! What a caller can prove of a map after `extend`.
 ghost use Rattle.std.specs.Prelude.{◌≡◌, ◌+◌, ◌≤◌, ◌∷◌, ◌++◌, List, length, IsPermutation, OnOk, IfErr, IsOk};
-ghost use Rattle.iddqd_bi.specs.Bag.{overs};
+ghost use Rattle.iddqd_bi.specs.Bag.{with_items};
 ghost use Rattle.iddqd_bi.specs.Map.{GrowsUnless, IsFullFor, bag};
 
 use iddqd_bi::{BiHashItem, BiHashMap, MemoryRefused, Ranked};
@@ -13,10 +13,10 @@ pub fn extend_by_vec<T: BiHashItem + Drop, S: BuildHasher>(
     items: Vec<T>,
 ) -> Result<(), MemoryRefused<T>>
     ensures all { OnOk result
-        (IsPermutation (bag map.new) (overs ⟦<T as Ranked>⟧.ranks (bag map.old) items.items)) }
+        (IsPermutation (bag map.new) (with_items ⟦<T as Ranked>⟧.ranks (bag map.old) items.items)) }
     ensures refused { IfErr result (λ e. (before : List T) × (behind : List T)
         × (items.items ≡ before ++ e.value ∷ behind)
-        × IsPermutation (bag map.new) (overs ⟦<T as Ranked>⟧.ranks (bag map.old) before)) }
+        × IsPermutation (bag map.new) (with_items ⟦<T as Ranked>⟧.ranks (bag map.old) before)) }
     ensures full { IfErr result (λ e. IsFullFor ⟦<T as Ranked>⟧.ranks map.new e.value) }
     ensures granted { length (bag map.old) + length items.items ≤ map.old.capacity → IsOk result }
     ensures room { GrowsUnless (length (bag map.old) + length items.items ≤ map.old.capacity) map.old map.new }

@@ -2,7 +2,7 @@
 ghost use Rattle.std.specs.Prelude.{◌≡◌, ◌≢◌, ◌<◌, [], ◌∷◌, ◌++◌, true, length, List, None, IsOk, IsErrOf, IsPermutation, OnOk, OnErr, IfErr};
 ghost use Rattle.std.specs.Bool.{OnTrue, OnFalse};
 ghost use Rattle.std.specs.Fn.{CalledAt};
-ghost use Rattle.iddqd_bi.specs.Bag.{differ, entry, listing, over};
+ghost use Rattle.iddqd_bi.specs.Bag.{first_mismatch, entry, listing, with_item};
 ghost use Rattle.iddqd_bi.specs.Calling.{TakesInTurn};
 ghost use Rattle.iddqd_bi.specs.Storing.{Stores};
 ghost use Rattle.iddqd_bi.specs.Map.{bag};
@@ -30,7 +30,7 @@ pub fn insert_through<'a, T: BiHashItem, S: BuildHasher>(
 ) -> Result<(), NotEntered<T>>
     ensures gains { OnOk result (IsPermutation (bag map.new) (item ∷ bag map.old)) }
     ensures granted { listing (⟦<T as Ranked>⟧.key_tests key1.now key2.now) (bag map.old) ≡ []
-        → differ (⟦<T as Ranked>⟧.key_tests key1.now key2.now) item ≡ None
+        → first_mismatch (⟦<T as Ranked>⟧.key_tests key1.now key2.now) item ≡ None
         → length (bag map.old) < map.old.capacity → IsOk result }
     ensures unchanged { OnErr result (map.new ≡ map.old) }
     ensures handed_back { (x : T) → IsErrOf result (NotEntered.Occupied x) → x ≡ item }
@@ -60,9 +60,9 @@ pub fn overwrite_through<'a, T: BiHashItem + Drop, S: BuildHasher>(
     item: T,
 ) -> bool
     ensures went_in { OnTrue result (IsPermutation (bag map.new)
-        (over ⟦<T as Ranked>⟧.ranks (bag map.old) item)) }
+        (with_item ⟦<T as Ranked>⟧.ranks (bag map.old) item)) }
     ensures granted { listing (⟦<T as Ranked>⟧.key_tests key1.now key2.now) (bag map.old) ≢ []
-        → differ (⟦<T as Ranked>⟧.key_tests key1.now key2.now) item ≡ None → result ≡ true }
+        → first_mismatch (⟦<T as Ranked>⟧.key_tests key1.now key2.now) item ≡ None → result ≡ true }
     ensures unchanged { OnFalse result (map.new ≡ map.old) }
 {
     match map.entry(key1, key2) {
@@ -185,7 +185,7 @@ where
     T::Data: Drop,
     ensures writes { OnOk result (WritesEntry ⟦<T as Ranked>⟧.ranks (λ x. T.put x d) (bag map.old) item
         (entry (⟦<T as Ranked>⟧.key_tests key1.now key2.now) (bag map.old)) (bag map.new)) }
-    ensures granted { differ (⟦<T as Ranked>⟧.key_tests key1.now key2.now) item ≡ None
+    ensures granted { first_mismatch (⟦<T as Ranked>⟧.key_tests key1.now key2.now) item ≡ None
         → length (bag map.old) < map.old.capacity → IsOk result }
     ensures occupied { listing (⟦<T as Ranked>⟧.key_tests key1.now key2.now) (bag map.old) ≢ []
         → IsOk result }
@@ -217,7 +217,7 @@ where
     T::Data: Drop,
     ensures writes { OnOk result (InsertsOrWrites ⟦<T as Ranked>⟧.ranks (λ x. T.put x d) (bag map.old)
         item (entry (⟦<T as Ranked>⟧.key_tests key1.now key2.now) (bag map.old)) (bag map.new)) }
-    ensures granted { differ (⟦<T as Ranked>⟧.key_tests key1.now key2.now) item ≡ None
+    ensures granted { first_mismatch (⟦<T as Ranked>⟧.key_tests key1.now key2.now) item ≡ None
         → length (bag map.old) < map.old.capacity → IsOk result }
     ensures occupied { listing (⟦<T as Ranked>⟧.key_tests key1.now key2.now) (bag map.old) ≢ []
         → IsOk result }

@@ -1,7 +1,7 @@
 //! What a caller can prove of a map after an insert, whether it succeeded or failed.
 ghost use Rattle.std.specs.Prelude.{◌≡◌, ◌≢◌, ◌<◌, ◌≤◌, ◌+◌, ◌⊎◌, ◌∷◌, [], true, length, IsPermutation};
 ghost use Rattle.std.specs.Bool.{OnTrue, OnFalse};
-ghost use Rattle.iddqd_bi.specs.Bag.{clash, order, over};
+ghost use Rattle.iddqd_bi.specs.Bag.{conflicts_of, conflicting, with_item};
 ghost use Rattle.iddqd_bi.specs.Map.{Gains, IsFullFor, bag};
 ghost use Rattle.iddqd_bi.specs.Callers.{GainsBoth, MayRefuse};
 
@@ -35,7 +35,7 @@ pub fn insert_both<T: Ranked + Drop, S: BuildHasher>(map: &mut BiHashMap<T, S>, 
         ⊎ (Gains map.old b map.new × MayRefuse T.ranks map.old a)
         ⊎ (Gains map.old a map.new × MayRefuse T.ranks map.new b)) }
     ensures no_less_room { map.old.capacity ≤ map.new.capacity }
-    ensures granted { clash T.ranks (bag map.old) a ≡ [] → clash T.ranks (a ∷ bag map.old) b ≡ []
+    ensures granted { conflicts_of T.ranks (bag map.old) a ≡ [] → conflicts_of T.ranks (a ∷ bag map.old) b ≡ []
         → 1 + length (bag map.old) < map.old.capacity → result ≡ true }
 {
     let has_a = insert_or_drop(map, a);
@@ -49,7 +49,7 @@ pub fn count_conflicts<T: Ranked + Drop, S: BuildHasher>(
     map: &mut BiHashMap<T, S>,
     item: T,
 ) -> usize
-    ensures count { result ≡ length (order T.ranks (bag map.old) item) }
+    ensures count { result ≡ length (conflicting T.ranks (bag map.old) item) }
     ensures went_in { result ≡ 0 → length (bag map.old) < map.old.capacity
         → IsPermutation (bag map.new) (item ∷ bag map.old) }
     ensures unchanged { result ≢ 0 → map.new ≡ map.old }
@@ -70,7 +70,7 @@ pub fn overwrite_or_drop<T: Ranked + Drop, S: BuildHasher>(
     map: &mut BiHashMap<T, S>,
     item: T,
 ) -> bool
-    ensures went_in { OnTrue result (IsPermutation (bag map.new) (over T.ranks (bag map.old) item)) }
+    ensures went_in { OnTrue result (IsPermutation (bag map.new) (with_item T.ranks (bag map.old) item)) }
     ensures unchanged { OnFalse result (map.new ≡ map.old) }
     ensures reason { OnFalse result (IsFullFor T.ranks map.old item) }
 {

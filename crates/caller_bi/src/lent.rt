@@ -1,6 +1,6 @@
 //! What a caller can prove of a map after writing what an entry borrows for one key.
 ghost use Rattle.std.specs.Prelude.{◌≡◌, ◌≢◌, ◌<◌, [], ◌∷◌, length, Some, None, IsOk, IsErrOf, IsPermutation, OnOk, OnErr};
-ghost use Rattle.iddqd_bi.specs.Bag.{IsOnly, differ, listing, swap};
+ghost use Rattle.iddqd_bi.specs.Bag.{IsOnly, first_mismatch, listing, swap};
 ghost use Rattle.iddqd_bi.specs.Map.{bag};
 ghost use Rattle.iddqd_bi.specs.Keys.{has1};
 ghost use Rattle.iddqd_bi.specs.Mismatch.{HandsBack};
@@ -80,7 +80,7 @@ pub fn insert_held<'a, T: BiHashItem, S: BuildHasher>(
 ) -> Result<(), NotEntered<T>>
     ensures gains { OnOk result (IsPermutation (bag map.new) (item ∷ bag map.old)) }
     ensures granted { listing (⟦<T as Ranked>⟧.key_tests key1.now key2.now) (bag map.old) ≡ []
-        → differ (⟦<T as Ranked>⟧.key_tests key1.now key2.now) item ≡ None
+        → first_mismatch (⟦<T as Ranked>⟧.key_tests key1.now key2.now) item ≡ None
         → length (bag map.old) < map.old.capacity → IsOk result }
     ensures unchanged { OnErr result (map.new ≡ map.old) }
     ensures handed_back { (x : T) → IsErrOf result (NotEntered.Occupied x) → x ≡ item }

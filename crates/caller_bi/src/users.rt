@@ -3,7 +3,7 @@ ghost use Rattle.std.specs.Prelude.{◌≡◌, ◌<◌, [], ◌∷◌, ◌++◌,
 ghost use Rattle.std.specs.Bool.{OnTrue, OnFalse};
 ghost use Rattle.std.specs.Cmp.Lexicographic.{pointwise};
 ghost use Rattle.std.specs.Option.{option_to_list};
-ghost use Rattle.iddqd_bi.specs.Bag.{IsOnly, clash, listing};
+ghost use Rattle.iddqd_bi.specs.Bag.{IsOnly, conflicts_of, listing};
 ghost use Rattle.iddqd_bi.specs.Callers.{IsRejected};
 ghost use Rattle.iddqd_bi.specs.Map.{bag};
 
@@ -38,7 +38,7 @@ impl BiHashItem for User {
 /// Registers a user, or returns the user if the number or the login is taken, or if there is no memory.
 pub fn register(users: &mut BiHashMap<User>, user: User) -> Result<(), User>
     ensures registered { OnOk result (IsPermutation (bag users.new) (user ∷ bag users.old)) }
-    ensures granted { clash ⟦<User as Ranked>⟧.ranks (bag users.old) user ≡ []
+    ensures granted { conflicts_of ⟦<User as Ranked>⟧.ranks (bag users.old) user ≡ []
         → length (bag users.old) < users.old.capacity → IsOk result }
     ensures handed_back { IfErr result (λ u. u ≡ user) }
     ensures unchanged { OnErr result (users.new ≡ users.old) }

@@ -3,7 +3,7 @@
 ghost use Rattle.std.specs.Prelude.{◌≡◌, ◌∷◌, ◌<◌, [], nat_eq, length, IsOk, IsPermutation, OnOk, OnErr, IfErr, IfSome, IfNone};
 ghost use Rattle.std.specs.Cmp.Lexicographic.{pointwise};
 ghost use Rattle.std.specs.List.{list_any};
-ghost use Rattle.iddqd_bi.specs.Bag.{IsOnly, clash};
+ghost use Rattle.iddqd_bi.specs.Bag.{IsOnly, conflicts_of};
 ghost use Rattle.iddqd_bi.specs.Map.{bag};
 
 use crate::items::Word;
@@ -12,7 +12,7 @@ use iddqd_bi::{BiHashMap, Ranked};
 /// Inserts a word, or returns it.
 pub fn add_word(words: &mut BiHashMap<Word>, word: Word) -> Result<(), Word>
     ensures went_in { OnOk result (IsPermutation (bag words.new) (word ∷ bag words.old)) }
-    ensures granted { clash ⟦<Word as Ranked>⟧.ranks (bag words.old) word ≡ []
+    ensures granted { conflicts_of ⟦<Word as Ranked>⟧.ranks (bag words.old) word ≡ []
         → length (bag words.old) < words.old.capacity → IsOk result }
     ensures handed_back { IfErr result (λ w. w ≡ word) }
     ensures unchanged { OnErr result (words.new ≡ words.old) }

@@ -1,7 +1,7 @@
 //! What a caller can prove of a map after writing an item.
 ghost use Rattle.std.specs.Prelude.{◌≡◌, Some, None, IsOk, IsPermutation, IfOk, IfErr, OnErr, true, false};
 ghost use Rattle.std.specs.List.{list_any};
-ghost use Rattle.iddqd_bi.specs.Bag.{IsOnly, differ, like, swap};
+ghost use Rattle.iddqd_bi.specs.Bag.{IsOnly, first_mismatch, tests_of, swap};
 ghost use Rattle.iddqd_bi.specs.Map.{bag};
 ghost use Rattle.iddqd_bi.specs.Keys.{has1};
 
@@ -69,7 +69,7 @@ pub fn replace1<T: BiHashItem, S: BuildHasher>(
         (swap ⟦<T as Ranked>⟧.ranks (bag map.old) x item)) }
     ensures only { IfOk result (λ x. IsOnly (has1 T.BiHashItem T.K1.eq key.now) (bag map.old) (Some x)) }
     ensures granted { (x : T) → IsOnly (has1 T.BiHashItem T.K1.eq key.now) (bag map.old) (Some x)
-        → differ (like ⟦<T as Ranked>⟧.ranks x) item ≡ None → IsOk result }
+        → first_mismatch (tests_of ⟦<T as Ranked>⟧.ranks x) item ≡ None → IsOk result }
     ensures unchanged { OnErr result (map.new ≡ map.old) }
     ensures handed_back { IfErr result (λ x. x ≡ item) }
 {

@@ -1,7 +1,7 @@
 //! A table of sessions, each known by its number, by its user and by its token.
 ghost use Rattle.std.specs.Prelude.{◌≡◌, ◌<◌, [], ◌∷◌, ◌++◌, ◌==◌, length, IsOk, All, IsPermutation, OnOk, OnErr, IfErr, Some, filter, option_copied};
 ghost use Rattle.std.specs.Option.{option_to_list};
-ghost use Rattle.iddqd_tri.specs.Bag.{IsOnly, clash};
+ghost use Rattle.iddqd_tri.specs.Bag.{IsOnly, conflicts_of};
 ghost use Rattle.iddqd_tri.specs.Callers.{IsRejected};
 ghost use Rattle.iddqd_tri.specs.Map.{bag, Loses};
 
@@ -49,7 +49,7 @@ pub fn open<S: BuildHasher>(
     session: Session,
 ) -> Result<(), Session>
     ensures opened { OnOk result (IsPermutation (bag sessions.new) (session ∷ bag sessions.old)) }
-    ensures granted { clash ⟦<Session as Ranked>⟧.ranks (bag sessions.old) session ≡ []
+    ensures granted { conflicts_of ⟦<Session as Ranked>⟧.ranks (bag sessions.old) session ≡ []
         → length (bag sessions.old) < sessions.old.capacity → IsOk result }
     ensures handed_back { IfErr result (λ s. s ≡ session) }
     ensures unchanged { OnErr result (sessions.new ≡ sessions.old) }

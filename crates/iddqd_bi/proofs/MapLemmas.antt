@@ -5,11 +5,11 @@ use Rattle.std.specs.declared.hash.Hash as hash
 use Rattle.std.specs.declared.hash.Hasher as hasher
 use Rattle.std.specs.declared.hash.BuildHasher as builder
 use Rattle.std.proofs.Common.{arith, refl, sym}
-use Rattle.iddqd_store.specs.Bag.{AreLawful, Ranks, agrees, clash, differ, listing, order}
+use Rattle.iddqd_store.specs.Bag.{AreLawful, Ranks, agrees, conflicts_of, first_mismatch, listing, conflicting}
 use Rattle.iddqd_store.specs.Rank.{key_hash}
 use Rattle.iddqd_store.specs.Rank.Keys.{AreKeyTests, IsKeyTest}
-use Rattle.iddqd_store.proofs.BagLemmas.Differ.{differ-none}
-use Rattle.iddqd_store.proofs.BagLemmas.KeyTests.{clash-keys, order-keys}
+use Rattle.iddqd_store.proofs.BagLemmas.Differ.{first_mismatch-none}
+use Rattle.iddqd_store.proofs.BagLemmas.KeyTests.{conflicts_of-keys, conflicting-keys}
 use Rattle.iddqd_store.proofs.MapLemmas.{IsEquivalence-key, IsKeyTest-key}
 use Rattle.iddqd_bi.specs.Keys.{ranks, key_tests}
 use Rattle.iddqd_bi.specs.declared.item.BiHashItem as item
@@ -53,11 +53,11 @@ module _ {T K1 K2 Q1 Q2 : Type 0} (of : item.Ghosts T K1 K2) (eq1 : K1 → K1 �
   AreKeyTests-queries k1 k2 = (IsKeyTest-query eq1 of.key1 stands1 respects1 k1, (IsKeyTest-query eq2 of.key2 stands2 respects2 k2, tt))
 
   -- an item with both keys conflicts with what they find
-  module _ (x : T) (k1 : Q1) (k2 : Q2) (same : differ (key_tests of stands1 stands2 k1 k2) x ≡ None) (bag : List T) where
-    pub order-both : order (ranks of eq1 eq2) bag x ≡ listing (key_tests of stands1 stands2 k1 k2) bag
-    order-both = order-keys (ranks of eq1 eq2) (key_tests of stands1 stands2 k1 k2) x
-        (AreKeyTests-queries k1 k2) (differ-none (key_tests of stands1 stands2 k1 k2) x same) bag
+  module _ (x : T) (k1 : Q1) (k2 : Q2) (same : first_mismatch (key_tests of stands1 stands2 k1 k2) x ≡ None) (bag : List T) where
+    pub conflicting-both : conflicting (ranks of eq1 eq2) bag x ≡ listing (key_tests of stands1 stands2 k1 k2) bag
+    conflicting-both = conflicting-keys (ranks of eq1 eq2) (key_tests of stands1 stands2 k1 k2) x
+        (AreKeyTests-queries k1 k2) (first_mismatch-none (key_tests of stands1 stands2 k1 k2) x same) bag
 
-    pub clash-both : listing (key_tests of stands1 stands2 k1 k2) bag ≡ [] → clash (ranks of eq1 eq2) bag x ≡ []
-    clash-both none = clash-keys (ranks of eq1 eq2) (key_tests of stands1 stands2 k1 k2) x
-        (AreKeyTests-queries k1 k2) (differ-none (key_tests of stands1 stands2 k1 k2) x same) bag none
+    pub conflicts_of-both : listing (key_tests of stands1 stands2 k1 k2) bag ≡ [] → conflicts_of (ranks of eq1 eq2) bag x ≡ []
+    conflicts_of-both none = conflicts_of-keys (ranks of eq1 eq2) (key_tests of stands1 stands2 k1 k2) x
+        (AreKeyTests-queries k1 k2) (first_mismatch-none (key_tests of stands1 stands2 k1 k2) x same) bag none

@@ -9,7 +9,7 @@ use Rattle.std.specs.declared.hash.Hash as hash
 use Rattle.std.specs.declared.hash.Hasher as hasher
 use Rattle.std.specs.declared.hash.BuildHasher as builder
 use mir.Syntax.{named}
-use Rattle.iddqd_store.specs.Bag.{IsOnly, Ranks, differ, entry, listing, over, unique, vacant}
+use Rattle.iddqd_store.specs.Bag.{IsOnly, Ranks, first_mismatch, entry, listing, with_item, unique, vacant}
 use Rattle.iddqd_store.specs.Bag as bags
 use Rattle.iddqd_store.specs.Map.{Map, bag, Gains}
 use Rattle.iddqd_store.specs.Map.Written.{map_with_if}
@@ -59,6 +59,7 @@ module _ {T S Q1 Q2 K1 K2 H : Type 0} where
     pub some : listing (entry_tests tests o) (bag o.map.now) ≢ []
 
   -- The occupied entries have the same keys, and the same slots of the map.
+  -- Example: It holds for an entry that has found a and b, before and after new data are written to a.
   pub record FindsSame (o p : OccupiedEntry T S Q1 Q2 K1 K2 H) : Type 0 where
     pub query1 : p.query1 ≡ o.query1
     pub query2 : p.query2 ≡ o.query2
@@ -72,7 +73,7 @@ module _ {T S Q1 Q2 K1 K2 H : Type 0} where
   pub record PutsOver (ranks : Ranks T) (tests : Q1 → Q2 → List (T → Bool))
       (before : OccupiedEntry T S Q1 Q2 K1 K2 H) (item : T) (after : OccupiedEntry T S Q1 Q2 K1 K2 H) : Type 0 where
     pub same_map : after.map.ghost_name ≡ before.map.ghost_name
-    pub items : IsPermutation (bag after.map.now) (over ranks (bag before.map.now) item)
+    pub items : IsPermutation (bag after.map.now) (with_item ranks (bag before.map.now) item)
     pub has_found : HasFound tests after
     pub unique : entry (entry_tests tests after) (bag after.map.now) ≡ unique item
     pub keys : (after.query1 ≡ before.query1) × (after.query2 ≡ before.query2)
@@ -87,6 +88,7 @@ module _ {T S K1 K2 H : Type 0} where
     pub live2 : IfSome m.slot2 (IsLive m.map.now.slots)
 
   -- The items of the same slots are held.
+  -- Example: It holds for what is held, before and after new data are written to it.
   pub record HoldsSame (m n : OccupiedEntryMut T S K1 K2 H) : Type 0 where
     pub same1 : n.slot1 ≡ m.slot1
     pub same2 : n.slot2 ≡ m.slot2
@@ -100,23 +102,23 @@ module _ {T S K1 K2 H : Type 0} where
   abbrev held_slots : OccupiedEntryMut T S K1 K2 H → List (Option ℕ)
   held_slots m = m.slot1 ∷ m.slot2 ∷ []
 
-  -- `held` lists the items that are held for writing, each once.
+  -- `held_items` lists the items that are held for writing, each once.
   -- Example: If every key names a, it is a.
-  abbrev pub held : OccupiedEntryMut T S K1 K2 H → List T
-  held m = held_at m.map.now.slots (held_slots m)
+  abbrev pub held_items : OccupiedEntryMut T S K1 K2 H → List T
+  held_items m = held_at m.map.now.slots (held_slots m)
 
   -- `held_entry` is what is held for writing, as an `Entry`.
   -- Example: If every key names a, it is `unique a`.
   abbrev pub held_entry : OccupiedEntryMut T S K1 K2 H → bags.Entry T
   held_entry m = entry_at m.map.now.slots (held_slots m)
 
-  -- `held1` is the item that is held for the first key, if there is one.
+  -- `held_item1` is the item that is held for the first key, if there is one.
   -- Example: If every key names a, it is `Some a`.
-  abbrev pub held1 : OccupiedEntryMut T S K1 K2 H → Option T
-  held1 m = option_and_then (get m.map.now.slots) m.slot1
+  abbrev pub held_item1 : OccupiedEntryMut T S K1 K2 H → Option T
+  held_item1 m = option_and_then (get m.map.now.slots) m.slot1
 
-  abbrev pub held2 : OccupiedEntryMut T S K1 K2 H → Option T
-  held2 m = option_and_then (get m.map.now.slots) m.slot2
+  abbrev pub held_item2 : OccupiedEntryMut T S K1 K2 H → Option T
+  held_item2 m = option_and_then (get m.map.now.slots) m.slot2
 
   -- `unique_slot` is the slot of the item that has both keys, if there is one.
   -- Example: If every key names a, in the slot 2, it is `Some 2`.
@@ -140,10 +142,10 @@ module _ {T S Q1 Q2 K1 K2 H : Type 0} where
     -- Example: If the entry has found a and b, then a and b are held.
     pub record HoldsFound (m : OccupiedEntryMut T S K1 K2 H) : Type 0 where
       pub holds : Holds m
-      pub listed : held m ≡ listing (entry_tests (key_tests of stands1 stands2) o) (bag o.map.now)
+      pub listed : held_items m ≡ listing (entry_tests (key_tests of stands1 stands2) o) (bag o.map.now)
       pub value : held_entry m ≡ entry (entry_tests (key_tests of stands1 stands2) o) (bag o.map.now)
-      pub by_key1 : IsOnly (has1 of stands1 o.query1) (bag o.map.now) (held1 m)
-      pub by_key2 : IsOnly (has2 of stands2 o.query2) (bag o.map.now) (held2 m)
+      pub by_key1 : IsOnly (has1 of stands1 o.query1) (bag o.map.now) (held_item1 m)
+      pub by_key2 : IsOnly (has2 of stands2 o.query2) (bag o.map.now) (held_item2 m)
 
     -- The call succeeds and changes nothing, and if the entry has found what its keys name, then that is held for
     -- writing.
@@ -165,16 +167,19 @@ module _ {T S K1 K2 H : Type 0} {of : item.Ghosts T K1 K2}
   module _ {Q1 Q2 : Type 0} {q1 : query.Ghosts Q1 K1} {e1 : equal.Ghosts Q1} {w1 : hash.Ghosts Q1}
       {q2 : query.Ghosts Q2 K2} {e2 : equal.Ghosts Q2} {w2 : hash.Ghosts Q2} where
     -- `entry_lender` is the name of the entry's reference to the map.
+    -- Example: For what `map.entry(..)` returned it is the name of the reference `map`.
     abbrev pub entry_lender : Entry T S Q1 Q2 K1 K2 H of eq1 input1 eq2 input2 build hashes q1 w1 e1 q2 w2 e2 → GName
     entry_lender (Vacant e) = e.map.ghost_name
     entry_lender (Occupied e) = e.map.ghost_name
 
     -- `entry_map` is the map of the entry.
+    -- Example: For an entry of a map of a, b it has a, b.
     abbrev pub entry_map : Entry T S Q1 Q2 K1 K2 H of eq1 input1 eq2 input2 build hashes q1 w1 e1 q2 w2 e2 → Map T S
     entry_map (Vacant e) = e.map.now
     entry_map (Occupied e) = e.map.now
 
     -- `entry_key1` is the entry's query for the first key.
+    -- Example: For what `map.entry(query1, query2)` returned it is `query1`.
     abbrev pub entry_key1 : Entry T S Q1 Q2 K1 K2 H of eq1 input1 eq2 input2 build hashes q1 w1 e1 q2 w2 e2 → Q1
     entry_key1 (Vacant e) = e.query1
     entry_key1 (Occupied e) = e.query1
@@ -184,6 +189,7 @@ module _ {T S K1 K2 H : Type 0} {of : item.Ghosts T K1 K2}
     entry_key2 (Occupied e) = e.query2
 
     -- The entry has these queries for its keys.
+    -- Example: It holds for what `map.entry(k1, k2)` returned.
     pub record HasKeys (e : Entry T S Q1 Q2 K1 K2 H of eq1 input1 eq2 input2 build hashes q1 w1 e1 q2 w2 e2)
         (k1 : Q1) (k2 : Q2) : Type 0 where
       pub key1 : entry_key1 e ≡ k1
@@ -210,10 +216,10 @@ module _ {T S K1 K2 H : Type 0} {of : item.Ghosts T K1 K2}
     OnOccupied (Occupied e) P = P e
 
     module _ (e : VacantEntry T S Q1 Q2 K1 K2 H of eq1 input1 eq2 input2 build hashes q1 w1 e1 q2 w2 e2) where
-      -- `wanted` has for each rank the test whether an item has the key of the vacant entry.
+      -- `vacant_tests` has for each rank the test whether an item has the key of the vacant entry.
       -- Example: No item of the map passes one of them.
-      abbrev pub wanted : List (T → Bool)
-      wanted = key_tests of q1.stands_for q2.stands_for e.query1 e.query2
+      abbrev pub vacant_tests : List (T → Bool)
+      vacant_tests = key_tests of q1.stands_for q2.stands_for e.query1 e.query2
 
       -- The item `x` was inserted into this very map (`Gains`), and the guard `r` borrows it.
       -- Example: A map of a, b becomes `x`, a, b, and `ref_item r` is `Some x`.
@@ -224,16 +230,16 @@ module _ {T S K1 K2 H : Type 0} {of : item.Ghosts T K1 K2}
         pub gains : Gains e.map.now x (ref_map r)
 
       -- The item `x` was inserted into this very map (`Gains`), and is held for writing, by each of its keys.
-      -- Example: A map of a, b becomes `x`, a, b, and `held` is `x`.
+      -- Example: A map of a, b becomes `x`, a, b, and `held_items` is `x`.
       pub record GainsAndHolds (x : T) (m : OccupiedEntryMut T S K1 K2 H) : Type 0 where
         pub same_map : m.map.ghost_name ≡ e.map.ghost_name
         pub gains : Gains e.map.now x m.map.now
         pub holds : Holds m
-        pub held : held m ≡ x ∷ []
+        pub held : held_items m ≡ x ∷ []
         pub unique : held_entry m ≡ unique x
         pub unique_held : held_unique m ≡ Some x
-        pub by_key1 : held1 m ≡ Some x
-        pub by_key2 : held2 m ≡ Some x
+        pub by_key1 : held_item1 m ≡ Some x
+        pub by_key2 : held_item2 m ≡ Some x
 
       -- The item `x` was inserted into the map of the vacant entry and is held for writing (`GainsAndHolds`), or the
       -- error returns it (`HandsBack`) and the map is as it was. The call succeeds if `x` has the keys of the entry and
@@ -242,11 +248,11 @@ module _ {T S K1 K2 H : Type 0} {of : item.Ghosts T K1 K2}
       pub record PutsIn (x : T)
           (result : Result (OccupiedEntryMut T S K1 K2 H) (EntryRefusal T S K1 K2 H)) : Type 0 where
         pub gains_and_holds : IfOk result (GainsAndHolds x)
-        pub same_keys : OnOk result (differ wanted x ≡ None)
-        pub granted : differ wanted x ≡ None → length (bag e.map.now) < e.map.now.capacity → IsOk result
+        pub same_keys : OnOk result (first_mismatch vacant_tests x ≡ None)
+        pub granted : first_mismatch vacant_tests x ≡ None → length (bag e.map.now) < e.map.now.capacity → IsOk result
         pub unchanged : IfErr result (λ refusal. refusal.map.now ≡ e.map.now)
         pub hands_back : IfErr result (λ refusal.
-            HandsBack (ranks of eq1.eq eq2.eq) wanted e.map.now x refusal.error)
+            HandsBack (ranks of eq1.eq eq2.eq) vacant_tests e.map.now x refusal.error)
 
       -- The item `x`, which a closure made, was inserted into the map of the vacant entry and is held for writing
       -- (`GainsAndHolds`), or the error is that of the entry and returns it (`HandsBack`). The call succeeds if `x` has
@@ -255,10 +261,10 @@ module _ {T S K1 K2 H : Type 0} {of : item.Ghosts T K1 K2}
       pub record PutsMadeIn {E : Type 0} (x : T)
           (result : Result (OccupiedEntryMut T S K1 K2 H) (TryEntryRefusal T E S K1 K2 H)) : Type 0 where
         pub gains_and_holds : IfOk result (GainsAndHolds x)
-        pub same_keys : OnOk result (differ wanted x ≡ None)
-        pub granted : differ wanted x ≡ None → length (bag e.map.now) < e.map.now.capacity → IsOk result
+        pub same_keys : OnOk result (first_mismatch vacant_tests x ≡ None)
+        pub granted : first_mismatch vacant_tests x ≡ None → length (bag e.map.now) < e.map.now.capacity → IsOk result
         pub hands_back : IfErr result (λ refusal.
-            IsInsert refusal.error (HandsBack (ranks of eq1.eq eq2.eq) wanted e.map.now x))
+            IsInsert refusal.error (HandsBack (ranks of eq1.eq eq2.eq) vacant_tests e.map.now x))
 
       -- The item that the closure made is inserted (`PutsMadeIn`), or the closure's error is returned
       -- (`FailsAsClosure`).
@@ -301,7 +307,7 @@ module _ {T S K1 K2 H : Type 0} {of : item.Ghosts T K1 K2}
       pub gains : Gains e.map.now x o.map.now
       pub keys : (o.query1 ≡ e.query1) × (o.query2 ≡ e.query2)
       pub has_found : HasFound (key_tests of q1.stands_for q2.stands_for) o
-      pub unique : entry (wanted e) (bag o.map.now) ≡ unique x
+      pub unique : entry (vacant_tests e) (bag o.map.now) ≡ unique x
 
 module _ (T S K1 K2 H : RattleType) (of : item.Ghosts T.Denot K1.Denot K2.Denot)
     (keys1 : HashMembers K1.Denot) (keys2 : HashMembers K2.Denot)

@@ -8,7 +8,7 @@ use Rattle.std.specs.declared.hash.BuildHasher as builder
 use mir.Syntax.{named}
 use Rattle.iddqd_store.specs.Map.{Map}
 use Rattle.iddqd_bi.specs.declared.item.BiHashItem as item
-use Rattle.iddqd_store.specs.Map.Walk.{first_from, one_fewer, passed, to_come, Passes}
+use Rattle.iddqd_store.specs.Map.Walk.{first_from, one_fewer, passed_items, to_come, Passes}
 use Rattle.iddqd_store.specs.Map.Written.{map_with_if}
 use Rattle.iddqd_bi.specs.declared.iter_mut.IterMut.{IterMut}
 use Rattle.iddqd_bi.specs.contracts.iter_mut.IterMut.{the_row}
@@ -22,7 +22,7 @@ module _ {T S K1 K2 H : Type 0} where
   -- `done_of` lists the items that the iteration has passed, as they were written.
   -- Example: For a, b, c, of which a has been passed, it is a.
   abbrev pub done_of : IterMut T S K1 K2 H → List T
-  done_of it = passed it.map.now it.next
+  done_of it = passed_items it.map.now it.next
 
   -- `next_written` is the map, where `f` of the next item has replaced it.
   -- Example: For a, b, c, of which a has been passed, it has a, `f b`, c.
@@ -34,10 +34,10 @@ module _ {T S K1 K2 H : Type 0} where
   abbrev pub after_next : IterMut T S K1 K2 H → ℕ
   after_next it = option_map_or (λ at. at + 1) (first_from it.map.now.slots it.next) it.next
 
-  -- `stepped` is the iteration after the next item, where `f` of that item has replaced it.
+  -- `next_iteration` is the iteration after the next item, where `f` of that item has replaced it.
   -- Example: For a, b, c, of which a has been passed, it has passed a, `f b`.
-  abbrev pub stepped : IterMut T S K1 K2 H → (T → T) → IterMut T S K1 K2 H
-  stepped it f = record {
+  abbrev pub next_iteration : IterMut T S K1 K2 H → (T → T) → IterMut T S K1 K2 H
+  next_iteration it f = record {
     map = record it.map { now = next_written it f };
     next = after_next it;
     left = one_fewer it.left;
@@ -66,4 +66,4 @@ module _ (T S K1 K2 H : RattleType) (of : item.Ghosts T.Denot K1.Denot K2.Denot)
   -- Example: For a, b, c, of which a has been passed, if d is written, it has passed a, `put b d`.
   abbrev pub lends_next : (D : RattleType) → (T.Denot → D.Denot → T.Denot)
       → MutBor (IterMut T.Denot S.Denot K1.Denot K2.Denot H.Denot) → Option (MutBor D.Denot) → Fml
-  lends_next D put m r = LendsIf iter_row D m r (λ d. stepped m.now (λ x. put x d)) m.now
+  lends_next D put m r = LendsIf iter_row D m r (λ d. next_iteration m.now (λ x. put x d)) m.now

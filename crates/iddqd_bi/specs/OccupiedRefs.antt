@@ -16,12 +16,12 @@ module _ {T : Type 0} where
   seen_unique (Unique x) = Some x.now
   seen_unique (NonUnique x1 x2) = None
 
-  -- `seen1` is the item with the first key, if there is one.
+  -- `seen_item1` is the item with the first key, if there is one.
   -- Example: For `Unique a` it is `Some a`.
-  abbrev pub seen1 : OccupiedEntryRef T → Option T
-  seen1 (Unique x) = Some x.now
-  seen1 (NonUnique x1 x2) = option_copied x1
+  abbrev pub seen_item1 : OccupiedEntryRef T → Option T
+  seen_item1 (Unique x) = Some x.now
+  seen_item1 (NonUnique x1 x2) = option_copied x1
 
-  abbrev pub seen2 : OccupiedEntryRef T → Option T
-  seen2 (Unique x) = Some x.now
-  seen2 (NonUnique x1 x2) = option_copied x2
+  abbrev pub seen_item2 : OccupiedEntryRef T → Option T
+  seen_item2 (Unique x) = Some x.now
+  seen_item2 (NonUnique x1 x2) = option_copied x2

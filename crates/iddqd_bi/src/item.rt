@@ -30,6 +30,26 @@ pub trait BiHashItem {
 
 /// An item with data beside its keys. A caller may write the data while the item is in a map, since its keys stay
 /// equal.
+///
+/// Where a key is a field beside the data, `Prim.search rules` proves its law, whatever its type is: a number, a text, a
+/// list, a struct, an enum, or a tuple of them.
+///
+/// ```text
+/// ghost use Rattle.std.proofs.Common.{rules};
+///
+/// /// An item that is known by a text, with how often it was met.
+/// struct Met { key1: String, key2: String, count: u64 }
+///
+/// impl BiHashItemMut for Met {
+///     type Data = u64;
+///     ghost data_of = { λ m. m.count };
+///     ghost put = { λ m n. record m { count = n } };
+///     ghost keeps_key1 = { Prim.search rules };
+///     ghost keeps_key2 = { Prim.search rules };
+///     ghost put_shows = { Prim.search rules };
+///     fn data_mut(&mut self) -> &mut u64 { &mut self.count }
+/// }
+/// ```
 pub trait BiHashItemMut: BiHashItem {
     /// The type of the data that can be written.
     type Data;
@@ -46,7 +66,8 @@ pub trait BiHashItemMut: BiHashItem {
         ensures* writes_back { sem 𝓛 (Lends Self.row Self.Data.row self.entry result (put self.old)) };
 
     // Laws that an implementation has to prove: with other data put in, the item's keys are equal to the old ones, and
-    // its data is what was put in.
+    // its data is what was put in. Equal is as the key's own `==` says, since a key that an item makes or lends is seen
+    // as the whole item.
     ghost keeps_key1: { (x : Self) (d : Self.Data) → Self.K1.eq (Self.key1 (put x d)) (Self.key1 x) ≡ true };
 
     ghost keeps_key2: { (x : Self) (d : Self.Data) → Self.K2.eq (Self.key2 (put x d)) (Self.key2 x) ≡ true };

@@ -14,6 +14,7 @@ mod map;
 mod pointers;
 mod ranks;
 mod ref_mut;
+mod rows;
 
 pub use entry::{Entry, OccupiedEntry, OccupiedEntryMut, OccupiedEntryRef, VacantEntry};
 pub use error::{
@@ -28,7 +29,8 @@ pub use ref_mut::RefMut;
 
 // Types of `iddqd_store` that the signatures of this crate name.
 pub use iddqd_store::{
-    ByMade, ByPair, Cursor, DuplicateItem, Equivalent, Holds, InsertReason, IntoIter, Iter,
-    KeyMatcher, LendsPair, Made, MakesKey, MemoryRefused, Meter, Query, ShortIntoIter, ShortIter,
-    TryReserveError, UpToTwo,
+    ByMade, ByPair, Cursor, Difference, DuplicateItem, Equivalent, HasData, Holds, InsertReason,
+    IntoIter, ItemPair, Iter, KeepsKey, KeepsMade, KeepsPair, KeyMatcher, LendsPair, Made,
+    MakesKey, MemoryRefused, Meter, Query, Row2, ShortIntoIter, ShortIter, TryReserveError,
+    UpToTwo,
 };

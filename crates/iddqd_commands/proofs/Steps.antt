@@ -3,15 +3,15 @@ use Rattle.std.proofs.Common.{◌≡◌, sym, subst, List, [], ◌∷◌, Some, 
 use Rattle.std.specs.Prelude.{ℕ, Bool, true, IsPermutation, MatchResult}
 use Rattle.std.proofs.lemmas.List.Sorted.{IsPermutation-sym}
 use Rattle.std.proofs.lemmas.Map.Keys.{IsDistinct-tail}
-use Rattle.iddqd_store.specs.Bag.{Ranks, AreLawful, IsSound, agrees, conflicts, over, overs, swap}
+use Rattle.iddqd_store.specs.Bag.{Ranks, AreLawful, IsSound, agrees, do_conflict, with_item, with_items, swap}
 use Rattle.iddqd_commands.specs.Reply.{Reply, done, duplicate, displaced, found, present, taken, memory, refused, size, items, kept, key, absent, absent_data, extend_refused}
 use Rattle.iddqd_commands.specs.Run.{Run}
 use Rattle.iddqd_store.specs.Map.State.{State}
 use Rattle.iddqd_commands.specs.Step.{Fits, InsertsUnique, InsertsOverwrite, Gets, Tells, Removes, Reserves, ShrinksTo, Clears, Sizes, Lists, Extends, ExtendsUnique}
 use Rattle.iddqd_commands.specs.Step.{EntryInserts, EntryRemoves, OrInserts, Replaces, Sets}
-use Rattle.iddqd_store.proofs.BagLemmas.Differ.{agrees-differ}
-use Rattle.iddqd_store.proofs.BagLemmas.Sound.{IsSound-over, IsSound-IsPermutation}
-use Rattle.iddqd_store.proofs.BagLemmas.Steps.{IsSound-nil, IsSound-cons, IsSound-overs, order-empty}
+use Rattle.iddqd_store.proofs.BagLemmas.Differ.{agrees-first_mismatch}
+use Rattle.iddqd_store.proofs.BagLemmas.Sound.{IsSound-with_item, IsSound-IsPermutation}
+use Rattle.iddqd_store.proofs.BagLemmas.Steps.{IsSound-nil, IsSound-cons, IsSound-with_items, conflicting-empty}
 use Rattle.iddqd_store.proofs.BagLemmas.Theory.{IsSound-swap}
 
 module _ {T : Type 0} (ranks : Ranks T) (laws : AreLawful ranks) (old new : State T) (sound : IsSound ranks old.items) where
@@ -27,17 +27,17 @@ module _ {T : Type 0} (ranks : Ranks T) (laws : AreLawful ranks) (old new : Stat
 -- the items after others in a sound bag are sound
 IsSound-back : {T : Type 0} (ranks : Ranks T) (xs ys : List T) → IsSound ranks (xs ++ ys) → IsSound ranks ys
 IsSound-back ranks [] ys h = h
-IsSound-back ranks (x ∷ xs) ys h = IsSound-back ranks xs ys (IsDistinct-tail (conflicts ranks) x (xs ++ ys) h)
+IsSound-back ranks (x ∷ xs) ys h = IsSound-back ranks xs ys (IsDistinct-tail (do_conflict ranks) x (xs ++ ys) h)
 
 module _ {T D : Type 0} (ranks : Ranks T) (laws : AreLawful ranks) (old new : State T) (sound : IsSound ranks old.items) where
   pub IsSound-InsertsUnique : (x : T) (reply : Reply T D) → InsertsUnique ranks old x reply new → IsSound ranks new.items
-  IsSound-InsertsUnique x done step = moved ranks laws old new sound (x ∷ old.items) step.1 (IsSound-cons ranks old.items x (order-empty ranks old.items x step.0) sound)
+  IsSound-InsertsUnique x done step = moved ranks laws old new sound (x ∷ old.items) step.1 (IsSound-cons ranks old.items x (conflicting-empty ranks old.items x step.0) sound)
   IsSound-InsertsUnique x (duplicate y ys) step = same ranks laws old new sound step.3
   IsSound-InsertsUnique x (memory y) step = same ranks laws old new sound step.3
   IsSound-InsertsUnique x reply step = absurd step
 
   pub IsSound-InsertsOverwrite : (x : T) (reply : Reply T D) → InsertsOverwrite ranks old x reply new → IsSound ranks new.items
-  IsSound-InsertsOverwrite x (displaced ys) step = moved ranks laws old new sound (over ranks old.items x) step.1 (IsSound-over ranks old.items x sound)
+  IsSound-InsertsOverwrite x (displaced ys) step = moved ranks laws old new sound (with_item ranks old.items x) step.1 (IsSound-with_item ranks old.items x sound)
   IsSound-InsertsOverwrite x (memory y) step = same ranks laws old new sound step.3
   IsSound-InsertsOverwrite x reply step = absurd step
 
@@ -52,7 +52,7 @@ module _ {T D : Type 0} (ranks : Ranks T) (laws : AreLawful ranks) (old new : St
   pub IsSound-Removes : (test : T → Bool) (reply : Reply T D) → Removes old test reply new → IsSound ranks new.items
   IsSound-Removes test (taken None) step = moved ranks laws old new sound old.items (IsPermutation-sym _ _ step.1) sound
   IsSound-Removes test (taken (Some x)) step =
-      IsDistinct-tail (conflicts ranks) x new.items (IsSound-IsPermutation ranks laws old.items (x ∷ new.items) step.1 sound)
+      IsDistinct-tail (do_conflict ranks) x new.items (IsSound-IsPermutation ranks laws old.items (x ∷ new.items) step.1 sound)
   IsSound-Removes test reply step = absurd step
 
   pub IsSound-Reserves : (more : ℕ) (reply : Reply T D) → Reserves old more reply new → IsSound ranks new.items
@@ -78,8 +78,8 @@ module _ {T D : Type 0} (ranks : Ranks T) (laws : AreLawful ranks) (old new : St
   IsSound-Lists reply step = absurd step
 
   pub IsSound-Extends : (xs : List T) (reply : Reply T D) → Extends ranks old xs reply new → IsSound ranks new.items
-  IsSound-Extends xs done step = moved ranks laws old new sound (overs ranks old.items xs) step.0.0 (IsSound-overs ranks old.items xs sound)
-  IsSound-Extends xs (memory y) step = moved ranks laws old new sound (overs ranks old.items step.0) step.3.0 (IsSound-overs ranks old.items step.0 sound)
+  IsSound-Extends xs done step = moved ranks laws old new sound (with_items ranks old.items xs) step.0.0 (IsSound-with_items ranks old.items xs sound)
+  IsSound-Extends xs (memory y) step = moved ranks laws old new sound (with_items ranks old.items step.0) step.3.0 (IsSound-with_items ranks old.items step.0 sound)
   IsSound-Extends xs reply step = absurd step
 
   pub IsSound-ExtendsUnique : (xs : List T) (reply : Reply T D) → ExtendsUnique ranks old xs reply new → IsSound ranks new.items
@@ -108,7 +108,7 @@ module _ {T D : Type 0} (ranks : Ranks T) (laws : AreLawful ranks) (old new : St
   pub IsSound-Replaces : (test : T → Bool) (x : T) (reply : Reply T D) → Replaces ranks test old x reply new → IsSound ranks new.items
   IsSound-Replaces test x (displaced ys) step =
       moved ranks laws old new sound (swap ranks old.items step.0 x) step.4
-      (IsSound-swap ranks laws old.items step.0 x (agrees-differ ranks step.0 x step.3) sound)
+      (IsSound-swap ranks laws old.items step.0 x (agrees-first_mismatch ranks step.0 x step.3) sound)
   IsSound-Replaces test x (key r y) step = same ranks laws old new sound step.4
   IsSound-Replaces test x (absent y) step = same ranks laws old new sound step.2
   IsSound-Replaces test x reply step = absurd step

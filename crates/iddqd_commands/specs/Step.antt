@@ -3,7 +3,7 @@ use Rattle.std.specs.Prelude.{◌≡◌, ◌≢◌, ◌+◌, ◌<◌, ◌≤◌,
 use Rattle.std.specs.Prelude.{Bool, Some, None, filter, length, IsPermutation}
 use Rattle.std.specs.List.{list_any}
 use Rattle.std.specs.Option.{option_to_list}
-use Rattle.iddqd_store.specs.Bag.{Ranks, IsOnly, IsSound, clash, differ, like, listing, order, over, swap}
+use Rattle.iddqd_store.specs.Bag.{Ranks, IsOnly, IsSound, conflicts_of, first_mismatch, tests_of, listing, conflicting, with_item, swap}
 use Rattle.iddqd_store.specs.Bag.Building.{AddsTo, IsReason}
 use Rattle.iddqd_store.specs.Map.{shrunk_to}
 use Rattle.iddqd_store.specs.Map.State.{State, ExtendsTo}
@@ -22,7 +22,7 @@ module _ {T : Type 0} where
   -- Example: With the bag and the capacity 3 it may happen to (4, 40), and not to (1, 40).
   abbrev pub Starves : Ranks T → State T → T → T → State T → Type 0
   Starves ranks old x y new =
-      (y ≡ x) × (clash ranks old.items x ≡ []) × (length old.items ≡ old.capacity) × (new ≡ old)
+      (y ≡ x) × (conflicts_of ranks old.items x ≡ []) × (length old.items ≡ old.capacity) × (new ≡ old)
 
   -- The capacity is no lower, and it stays if the items of the list fit before the call.
   -- Example: With the bag and the capacity 7, it stays for a list of 4 items.
@@ -37,10 +37,10 @@ module _ {T D : Type 0} where
   -- Example: For (4, 40) the reply is `done`, and for (1, 20) it is `duplicate` with (1, 20) and (1, 10), (2, 20).
   abbrev pub InsertsUnique : Ranks T → State T → T → Reply T D → State T → Type 0
   InsertsUnique ranks old x done new =
-      (clash ranks old.items x ≡ []) × IsPermutation new.items (x ∷ old.items)
+      (conflicts_of ranks old.items x ≡ []) × IsPermutation new.items (x ∷ old.items)
       × (old.capacity ≤ new.capacity) × (length old.items < old.capacity → new.capacity ≡ old.capacity)
   InsertsUnique ranks old x (duplicate y ys) new =
-      (y ≡ x) × (clash ranks old.items x ≢ []) × (ys ≡ order ranks old.items x) × (new ≡ old)
+      (y ≡ x) × (conflicts_of ranks old.items x ≢ []) × (ys ≡ conflicting ranks old.items x) × (new ≡ old)
   InsertsUnique ranks old x (memory y) new = Starves ranks old x y new
   InsertsUnique ranks old x reply new = ⊥
 
@@ -49,9 +49,9 @@ module _ {T D : Type 0} where
   -- Example: For (1, 20) the reply is `displaced` with (1, 10), (2, 20), and the bag becomes (1, 20), (3, 30).
   abbrev pub InsertsOverwrite : Ranks T → State T → T → Reply T D → State T → Type 0
   InsertsOverwrite ranks old x (displaced ys) new =
-      (ys ≡ order ranks old.items x) × IsPermutation new.items (over ranks old.items x)
+      (ys ≡ conflicting ranks old.items x) × IsPermutation new.items (with_item ranks old.items x)
       × (old.capacity ≤ new.capacity) × (length old.items < old.capacity → new.capacity ≡ old.capacity)
-      × (clash ranks old.items x ≢ [] → new.capacity ≡ old.capacity)
+      × (conflicts_of ranks old.items x ≢ [] → new.capacity ≡ old.capacity)
   InsertsOverwrite ranks old x (memory y) new = Starves ranks old x y new
   InsertsOverwrite ranks old x reply new = ⊥
 
@@ -115,7 +115,7 @@ module _ {T D : Type 0} where
   Lists old (items xs) new = IsPermutation xs old.items × (new ≡ old)
   Lists old reply new = ⊥
 
-  -- The items of the list are inserted one by one, each with `over`, until there is no memory for one in a full map.
+  -- The items of the list are inserted one by one, each with `with_item`, until there is no memory for one in a full map.
   -- The reply has that one. The capacity grows only if the items may not all fit.
   -- Example: For (1, 20), (3, 40) the reply is `done`, and the bag becomes (3, 40), (1, 20).
   abbrev pub Extends : Ranks T → State T → List T → Reply T D → State T → Type 0
@@ -123,7 +123,7 @@ module _ {T D : Type 0} where
       ExtendsTo ranks old xs new × (length old.items + length xs ≤ old.capacity → new.capacity ≡ old.capacity)
   Extends ranks old xs (memory y) new =
       (front : List T) × (rest : List T) × (xs ≡ front ++ y ∷ rest) × ExtendsTo ranks old front new
-      × (clash ranks new.items y ≡ []) × (length new.items ≡ new.capacity)
+      × (conflicts_of ranks new.items y ≡ []) × (length new.items ≡ new.capacity)
   Extends ranks old xs reply new = ⊥
 
   -- All items of the list are inserted, or none is, because one is rejected for a conflict or for lack of memory. Then
@@ -134,7 +134,7 @@ module _ {T D : Type 0} where
       AddsTo ranks old.items new.items xs × IsSound ranks new.items × GrowsFor xs old new
   ExtendsUnique ranks old xs (extend_refused reason ys y) new =
       (rest : List T) × (xs ≡ ys ++ y ∷ rest) × IsPermutation new.items old.items × IsSound ranks (ys ++ old.items)
-      × IsReason reason (clash ranks (ys ++ old.items) y) × GrowsFor xs old new
+      × IsReason reason (conflicts_of ranks (ys ++ old.items) y) × GrowsFor xs old new
   ExtendsUnique ranks old xs reply new = ⊥
 
   -- The item replaces the items that have one of the keys, which the reply has. If a key of `x` is not the one asked
@@ -144,9 +144,9 @@ module _ {T D : Type 0} where
   -- item (1, 50) it is `key 1 (1, 50)`.
   abbrev pub EntryInserts : Ranks T → List (T → Bool) → State T → T → Reply T D → State T → Type 0
   EntryInserts ranks tests old x (displaced ys) new =
-      (differ tests x ≡ None) × InsertsOverwrite ranks old x (displaced ys) new
-  EntryInserts ranks tests old x (key r y) new = (differ tests x ≡ Some r) × (y ≡ x) × (new ≡ old)
-  EntryInserts ranks tests old x (memory y) new = (differ tests x ≡ None) × Starves ranks old x y new
+      (first_mismatch tests x ≡ None) × InsertsOverwrite ranks old x (displaced ys) new
+  EntryInserts ranks tests old x (key r y) new = (first_mismatch tests x ≡ Some r) × (y ≡ x) × (new ≡ old)
+  EntryInserts ranks tests old x (memory y) new = (first_mismatch tests x ≡ None) × Starves ranks old x y new
   EntryInserts ranks tests old x reply new = ⊥
 
   -- The items that have one of the keys leave the bag, and the reply has them in the order of the keys.
@@ -163,11 +163,11 @@ module _ {T D : Type 0} where
   abbrev pub OrInserts : Ranks T → List (T → Bool) → State T → T → Reply T D → State T → Type 0
   OrInserts ranks tests old x kept new = (listing tests old.items ≢ []) × (new ≡ old)
   OrInserts ranks tests old x (key r y) new =
-      (listing tests old.items ≡ []) × (differ tests x ≡ Some r) × (y ≡ x) × (new ≡ old)
+      (listing tests old.items ≡ []) × (first_mismatch tests x ≡ Some r) × (y ≡ x) × (new ≡ old)
   OrInserts ranks tests old x done new =
-      (listing tests old.items ≡ []) × (differ tests x ≡ None) × InsertsUnique ranks old x done new
+      (listing tests old.items ≡ []) × (first_mismatch tests x ≡ None) × InsertsUnique ranks old x done new
   OrInserts ranks tests old x (memory y) new =
-      (listing tests old.items ≡ []) × (differ tests x ≡ None) × Starves ranks old x y new
+      (listing tests old.items ≡ []) × (first_mismatch tests x ≡ None) × Starves ranks old x y new
   OrInserts ranks tests old x reply new = ⊥
 
   -- The item replaces the one that passes the test, if it has the same keys, and the reply has the old one. Otherwise
@@ -175,10 +175,10 @@ module _ {T D : Type 0} where
   -- Example: For the first key 2 the item (2, 50) is returned with `key 1`, and for the first key 7 it is `absent`.
   abbrev pub Replaces : Ranks T → (T → Bool) → State T → T → Reply T D → State T → Type 0
   Replaces ranks test old x (displaced ys) new =
-      (z : T) × IsOnly test old.items (Some z) × (ys ≡ z ∷ []) × (differ (like ranks z) x ≡ None)
+      (z : T) × IsOnly test old.items (Some z) × (ys ≡ z ∷ []) × (first_mismatch (tests_of ranks z) x ≡ None)
       × IsPermutation new.items (swap ranks old.items z x) × (new.capacity ≡ old.capacity)
   Replaces ranks test old x (key r y) new =
-      (z : T) × IsOnly test old.items (Some z) × (differ (like ranks z) x ≡ Some r) × (y ≡ x) × (new ≡ old)
+      (z : T) × IsOnly test old.items (Some z) × (first_mismatch (tests_of ranks z) x ≡ Some r) × (y ≡ x) × (new ≡ old)
   Replaces ranks test old x (absent y) new = (filter test old.items ≡ []) × (y ≡ x) × (new ≡ old)
   Replaces ranks test old x reply new = ⊥
 

@@ -21,7 +21,7 @@ use Rattle.iddqd_id.specs.declared.entry.OccupiedEntry.{OccupiedEntry}
 use Rattle.iddqd_id.specs.declared.error.EntryRefusal.{EntryRefusal}
 use Rattle.iddqd_id.specs.declared.ref_mut.RefMut.{RefMut}
 -- nothing conflicts with an item exactly if its key finds nothing
-pub use Rattle.iddqd_store.proofs.BagLemmas.Steps.{clash-empty, order-empty}
+pub use Rattle.iddqd_store.proofs.BagLemmas.Steps.{conflicts_of-empty, conflicting-empty}
 
 -- an occupied entry has found something
 found_some : {T S Q Key H : Type 0} (of : item.Ghosts T Key) (stands : Q → Key → Bool) (o : OccupiedEntry T S Q Key H) → HasFound of stands o → IsOnly (has of stands o.query) (bag o.map.now) None → ⊥

@@ -1,19 +1,19 @@
 -- Written by hand; tests/one_key.patch says why.
 
 -- What one search found, and what an entry finds after a write.
-use Rattle.std.specs.Prelude.{◌≡◌, ◌≢◌, ℕ, Bool, true, false, List, [], ◌∷◌, length, Option, Some, None, IsSome, is_some, IsPermutation}
+use Rattle.std.specs.Prelude.{◌≡◌, ◌≢◌, ◌&&◌, ℕ, Bool, true, false, cond, filter, List, [], ◌∷◌, length, Option, Some, None, IsSome, is_some, IsPermutation}
 use Rattle.std.specs.Borrow.{Bor}
 use Rattle.std.specs.Cmp.{IsEquivalence}
 use Rattle.std.specs.List.{AllByRecursion}
 use Rattle.std.specs.Option.{option_and_then, option_copied, option_to_list}
 use Rattle.std.proofs.Common.{refl, sym, ap, subst, ◌∙◌, arith}
 use Rattle.std.proofs.lemmas.List.Sorted.{IsPermutation-sym}
-use Rattle.iddqd_store.specs.Bag.{IsOnly, IsSound, Ranks, agrees, clash, order, swap}
+use Rattle.iddqd_store.specs.Bag.{IsOnly, IsSound, Ranks, agrees, conflicts_of, every_of, conflicting, swap}
 use Rattle.iddqd_store.specs.Map.{bag}
-use Rattle.iddqd_store.specs.Slots.{get}
-use Rattle.iddqd_store.specs.Slots.Found.{each_once, items_at}
+use Rattle.iddqd_store.specs.Slots.{contents, get}
+use Rattle.iddqd_store.specs.Slots.Found.{FoundAt, each_once, items_at}
 use Rattle.iddqd_store.proofs.BagLemmas.Sound.{IsSound-IsPermutation, each_passes}
-use Rattle.iddqd_store.proofs.BagLemmas.Steps.{clash-empty, order-empty}
+use Rattle.iddqd_store.proofs.BagLemmas.Steps.{conflicts_of-empty, conflicting-empty}
 use Rattle.iddqd_store.proofs.BagLemmas.Theory.{IsSound-swap}
 use Rattle.iddqd_store.proofs.MapLemmas.Written.{item_written}
 use Rattle.iddqd_store.proofs.SlotLemmas.Found.{items_at-push}
@@ -23,6 +23,20 @@ use Rattle.iddqd_id.specs.Keys.{has, key_tests, ranks}
 use Rattle.iddqd_id.specs.declared.item.IdHashItem as item
 use Rattle.iddqd_id.specs.declared.entry.OccupiedEntry.{OccupiedEntry}
 use Rattle.iddqd_id.proofs.MapLemmas.{AreKeyTests-queries, AreLawful-ranks}
+
+-- the items that pass a test are those that pass it and no other
+passes_alone : {T : Type 0} (test : T → Bool) (xs : List T) → filter test xs ≡ filter (every_of (test ∷ [])) xs
+passes_alone test [] = refl
+passes_alone {T} test (x ∷ xs) = by (test x) (passes_alone test xs)
+  where
+    by : (b : Bool) → filter test xs ≡ filter (every_of (test ∷ [])) xs
+        → cond b (x ∷ filter test xs) (filter test xs) ≡ cond (b && true) (x ∷ filter (every_of (test ∷ [])) xs) (filter (every_of (test ∷ [])) xs)
+    by true less = ap (λ (ys : List T). x ∷ ys) less
+    by false less = less
+
+-- a search by the only key finds the item that has all keys
+pub found_by_only : {T : Type 0} (test : T → Bool) (slots : List (Option T)) (slot : Option ℕ) → FoundAt test slots slot → FoundAt (every_of (test ∷ [])) slots slot
+found_by_only test slots slot found = record { only = found.only ∙ passes_alone test (contents slots); live = found.live }
 
 -- one search finds one slot, or none
 pub one_slot : {s : Option ℕ} {slot : ℕ} → s ≡ Some slot → each_once (s ∷ []) ≡ slot ∷ []
@@ -38,12 +52,12 @@ module _ {T : Type 0} where
   one_item slots (Some slot) = sym (items_at-push slots [] slot)
 
   -- something conflicts exactly if an item is listed
-  pub clash_found : (ranks : Ranks T) (bag : List T) (x : T) (r : Option (Bor T)) → option_to_list (option_copied r) ≡ order ranks bag x → is_some r ≡ true → clash ranks bag x ≢ []
+  pub clash_found : (ranks : Ranks T) (bag : List T) (x : T) (r : Option (Bor T)) → option_to_list (option_copied r) ≡ conflicting ranks bag x → is_some r ≡ true → conflicts_of ranks bag x ≢ []
   clash_found ranks bag x None is some = absurd (cc some)
-  clash_found ranks bag x (Some r) is some = λ none. absurd (cc (is, order-empty ranks bag x none))
+  clash_found ranks bag x (Some r) is some = λ none. absurd (cc (is, conflicting-empty ranks bag x none))
 
-  pub clash_not_found : (ranks : Ranks T) (bag : List T) (x : T) (r : Option (Bor T)) → option_to_list (option_copied r) ≡ order ranks bag x → is_some r ≡ false → clash ranks bag x ≡ []
-  clash_not_found ranks bag x None is none = clash-empty ranks bag x (sym is)
+  pub clash_not_found : (ranks : Ranks T) (bag : List T) (x : T) (r : Option (Bor T)) → option_to_list (option_copied r) ≡ conflicting ranks bag x → is_some r ≡ false → conflicts_of ranks bag x ≡ []
+  clash_not_found ranks bag x None is none = conflicts_of-empty ranks bag x (sym is)
   clash_not_found ranks bag x (Some r) is none = absurd (cc none)
 
   -- the only item that passes a test passes it

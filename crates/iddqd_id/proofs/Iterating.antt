@@ -8,22 +8,22 @@ use mathlib.Core.Path.{fun_ext}
 use native.Mathlib.Numerals.{unary_clauses}
 use Rattle.iddqd_store.specs.Map.Written.{map_with}
 use Rattle.iddqd_store.specs.Map.Walk.{first_from, one_fewer}
-use Rattle.iddqd_id.specs.IterMuts.{stepped, rest_of, IsCounted, IsNextOf}
+use Rattle.iddqd_id.specs.IterMuts.{next_iteration, rest_of, IsCounted, IsNextOf}
 use Rattle.iddqd_id.specs.declared.iter_mut.IterMut.{IterMut}
 
 module _ {T S Key H : Type 0} (it : IterMut T S Key H) where
   pub steps_to : {D : Type 0} (put : D → T → T) (name : GName) (slot n left : ℕ) → n ≡ slot → left ≡ one_fewer it.left
       → first_from it.map.now.slots it.next ≡ Some slot → ◌≡◌ {A = (GName × (D → IterMut T S Key H)) ⊎ IterMut T S Key H}
-      (inl (name, λ w. record { map = record it.map { now = map_with it.map.now slot (put w) }; next = n + 1; left = left })) (inl (name, λ w. stepped it (put w)))
+      (inl (name, λ w. record { map = record it.map { now = map_with it.map.now slot (put w) }; next = n + 1; left = left })) (inl (name, λ w. next_iteration it (put w)))
   steps_to {D} put name slot n left is fewer step =
       let ends : D → IterMut T S Key H = λ w. record { map = record it.map { now = map_with it.map.now slot (put w) }; next = n + 1; left = left } in
-      let steps : D → IterMut T S Key H = λ w. stepped it (put w) in
+      let steps : D → IterMut T S Key H = λ w. next_iteration it (put w) in
       let same : (w : D) → ends w ≡ steps w = λ w. rw (is, fewer, step) refl in
       ap (λ (F : D → IterMut T S Key H). inl (name, F)) (fun_ext same)
 
 -- an iteration that is counted right is still counted right after its next item is written
 module _ {T S Key H : Type 0} (it : IterMut T S Key H) where
-  pub counted_on : it.left < 2 ^ 64 → (f : T → T) → IsCounted it → IsNextOf it → IsCounted (stepped it f)
+  pub counted_on : it.left < 2 ^ 64 → (f : T → T) → IsCounted it → IsNextOf it → IsCounted (next_iteration it f)
   counted_on fits f counted next =
-      let more : it.left ≡ length (rest_of (stepped it f)) + 1 = rw (counted, next.1.comes, next.1.behind f) (simp unary_clauses refl) in
+      let more : it.left ≡ length (rest_of (next_iteration it f)) + 1 = rw (counted, next.1.comes, next.1.behind f) (simp unary_clauses refl) in
       omega arith

@@ -7,11 +7,11 @@ use Rattle.std.specs.declared.hash.Hash as hash
 use Rattle.std.specs.declared.hash.Hasher as hasher
 use Rattle.std.specs.declared.hash.BuildHasher as builder
 use Rattle.std.proofs.Common.{arith, refl, sym}
-use Rattle.iddqd_store.specs.Bag.{AreLawful, Ranks, agrees, clash, differ, listing, order}
+use Rattle.iddqd_store.specs.Bag.{AreLawful, Ranks, agrees, conflicts_of, first_mismatch, listing, conflicting}
 use Rattle.iddqd_store.specs.Rank.{key_hash}
 use Rattle.iddqd_store.specs.Rank.Keys.{AreKeyTests, IsKeyTest}
-use Rattle.iddqd_store.proofs.BagLemmas.Differ.{differ-none}
-use Rattle.iddqd_store.proofs.BagLemmas.KeyTests.{clash-keys, order-keys}
+use Rattle.iddqd_store.proofs.BagLemmas.Differ.{first_mismatch-none}
+use Rattle.iddqd_store.proofs.BagLemmas.KeyTests.{conflicts_of-keys, conflicting-keys}
 use Rattle.iddqd_store.proofs.MapLemmas.{IsEquivalence-key, IsKeyTest-key}
 use Rattle.iddqd_id.specs.Keys.{ranks, key_tests}
 use Rattle.iddqd_id.specs.declared.item.IdHashItem as item
@@ -54,11 +54,11 @@ module _ {T Key Q : Type 0} (of : item.Ghosts T Key) (eq : Key → Key → Bool)
   AreKeyTests-queries k = (IsKeyTest-query eq of.key stands respects k, tt)
 
   -- an item with the key conflicts with what they find
-  module _ (x : T) (k : Q) (same : differ (key_tests of stands k) x ≡ None) (bag : List T) where
-    pub order-key : order (ranks of eq) bag x ≡ listing (key_tests of stands k) bag
-    order-key = order-keys (ranks of eq) (key_tests of stands k) x
-        (AreKeyTests-queries k) (differ-none (key_tests of stands k) x same) bag
+  module _ (x : T) (k : Q) (same : first_mismatch (key_tests of stands k) x ≡ None) (bag : List T) where
+    pub conflicting-key : conflicting (ranks of eq) bag x ≡ listing (key_tests of stands k) bag
+    conflicting-key = conflicting-keys (ranks of eq) (key_tests of stands k) x
+        (AreKeyTests-queries k) (first_mismatch-none (key_tests of stands k) x same) bag
 
-    pub clash-key : listing (key_tests of stands k) bag ≡ [] → clash (ranks of eq) bag x ≡ []
-    clash-key none = clash-keys (ranks of eq) (key_tests of stands k) x
-        (AreKeyTests-queries k) (differ-none (key_tests of stands k) x same) bag none
+    pub conflicts_of-key : listing (key_tests of stands k) bag ≡ [] → conflicts_of (ranks of eq) bag x ≡ []
+    conflicts_of-key none = conflicts_of-keys (ranks of eq) (key_tests of stands k) x
+        (AreKeyTests-queries k) (first_mismatch-none (key_tests of stands k) x same) bag none

@@ -10,7 +10,7 @@ use Rattle.std.specs.declared.hash.Hash as hash
 use Rattle.std.specs.declared.hash.Hasher as hasher
 use Rattle.std.specs.declared.hash.BuildHasher as builder
 use mir.Syntax.{named}
-use Rattle.iddqd_store.specs.Bag.{IsOnly, Ranks, differ, swap}
+use Rattle.iddqd_store.specs.Bag.{IsOnly, Ranks, first_mismatch, swap}
 use Rattle.iddqd_store.specs.Map.{Map, bag, Gains}
 use Rattle.iddqd_store.specs.Map.Written.{map_with}
 use Rattle.iddqd_store.specs.Slots.{get, IsLive}
@@ -90,16 +90,19 @@ module _ {T S Q Key H : Type 0} {of : item.Ghosts T Key}
     {build : builder.Ghosts S H} {hashes : hasher.Ghosts H}
     {q : query.Ghosts Q Key} {e : equal.Ghosts Q} {w : hash.Ghosts Q} where
   -- `entry_lender` is the name of the entry's reference to the map.
+  -- Example: For what `map.entry(..)` returned it is the name of the reference `map`.
   abbrev pub entry_lender : Entry T S Q Key H of eq input build hashes q w e → GName
   entry_lender (Vacant v) = v.map.ghost_name
   entry_lender (Occupied o) = o.map.ghost_name
 
   -- `entry_map` is the map of the entry.
+  -- Example: For an entry of a map of a, b it has a, b.
   abbrev pub entry_map : Entry T S Q Key H of eq input build hashes q w e → Map T S
   entry_map (Vacant v) = v.map.now
   entry_map (Occupied o) = o.map.now
 
   -- `entry_key` is the entry's query for the key.
+  -- Example: For what `map.entry(query)` returned it is `query`.
   abbrev pub entry_key : Entry T S Q Key H of eq input build hashes q w e → Q
   entry_key (Vacant v) = v.query
   entry_key (Occupied o) = o.query
@@ -125,10 +128,10 @@ module _ {T S Q Key H : Type 0} {of : item.Ghosts T Key}
   OnOccupied (Occupied o) P = P o
 
   module _ (v : VacantEntry T S Q Key H of eq input build hashes q w e) where
-    -- `wanted` has the test whether an item has the key of the vacant entry.
+    -- `vacant_tests` has the test whether an item has the key of the vacant entry.
     -- Example: No item of the map passes it.
-    abbrev pub wanted : List (T → Bool)
-    wanted = key_tests of q.stands_for v.query
+    abbrev pub vacant_tests : List (T → Bool)
+    vacant_tests = key_tests of q.stands_for v.query
 
     -- The item `x` was inserted into this very map (`Gains`), and the guard `r` borrows it.
     -- Example: A map of a, b becomes `x`, a, b, and `ref_item r` is `Some x`.
@@ -153,10 +156,10 @@ module _ {T S Q Key H : Type 0} {of : item.Ghosts T Key}
     pub record PutsIn (x : T)
         (result : Result (RefMut T S Key H of eq input build hashes) (EntryRefusal T S Key H)) : Type 0 where
       pub gains_and_lends : IfOk result (GainsAndLends x)
-      pub same_keys : OnOk result (differ wanted x ≡ None)
-      pub granted : differ wanted x ≡ None → length (bag v.map.now) < v.map.now.capacity → IsOk result
+      pub same_keys : OnOk result (first_mismatch vacant_tests x ≡ None)
+      pub granted : first_mismatch vacant_tests x ≡ None → length (bag v.map.now) < v.map.now.capacity → IsOk result
       pub unchanged : IfErr result (λ refusal. refusal.map.now ≡ v.map.now)
-      pub hands_back : IfErr result (λ refusal. HandsBack (ranks of eq.eq) wanted v.map.now x refusal.error)
+      pub hands_back : IfErr result (λ refusal. HandsBack (ranks of eq.eq) vacant_tests v.map.now x refusal.error)
 
     -- The item `x`, which a closure made, was inserted into the map of the vacant entry and is lent (`GainsAndLends`), or
     -- the error is that of the entry and returns it (`HandsBack`). The call succeeds if `x` has the key of the entry and
@@ -165,10 +168,10 @@ module _ {T S Q Key H : Type 0} {of : item.Ghosts T Key}
     pub record PutsMadeIn {E : Type 0} (x : T)
         (result : Result (RefMut T S Key H of eq input build hashes) (TryEntryRefusal T E S Key H)) : Type 0 where
       pub gains_and_lends : IfOk result (GainsAndLends x)
-      pub same_keys : OnOk result (differ wanted x ≡ None)
-      pub granted : differ wanted x ≡ None → length (bag v.map.now) < v.map.now.capacity → IsOk result
+      pub same_keys : OnOk result (first_mismatch vacant_tests x ≡ None)
+      pub granted : first_mismatch vacant_tests x ≡ None → length (bag v.map.now) < v.map.now.capacity → IsOk result
       pub hands_back : IfErr result (λ refusal.
-          IsInsert refusal.error (HandsBack (ranks of eq.eq) wanted v.map.now x))
+          IsInsert refusal.error (HandsBack (ranks of eq.eq) vacant_tests v.map.now x))
 
     -- The item that the closure made is inserted (`PutsMadeIn`), or the closure's error is returned
     -- (`FailsAsClosure`).

@@ -10,7 +10,7 @@ use Rattle.std.specs.declared.hash.BuildHasher as builder
 use mir.Syntax.{named}
 use Rattle.iddqd_store.specs.Map.{Map}
 use Rattle.iddqd_id.specs.declared.item.IdHashItem as item
-use Rattle.iddqd_store.specs.Map.Walk.{first_from, one_fewer, passed, to_come, Passes}
+use Rattle.iddqd_store.specs.Map.Walk.{first_from, one_fewer, passed_items, to_come, Passes}
 use Rattle.iddqd_store.specs.Map.Written.{map_with_if}
 use Rattle.iddqd_id.specs.declared.iter_mut.IterMut.{IterMut}
 use Rattle.iddqd_id.specs.contracts.iter_mut.IterMut.{the_row}
@@ -24,7 +24,7 @@ module _ {T S Key H : Type 0} where
   -- `done_of` lists the items that the iteration has passed, as they were written.
   -- Example: For a, b, c, of which a has been passed, it is a.
   abbrev pub done_of : IterMut T S Key H → List T
-  done_of it = passed it.map.now it.next
+  done_of it = passed_items it.map.now it.next
 
   -- `next_written` is the map, where `f` of the next item has replaced it.
   -- Example: For a, b, c, of which a has been passed, it has a, `f b`, c.
@@ -36,10 +36,10 @@ module _ {T S Key H : Type 0} where
   abbrev pub after_next : IterMut T S Key H → ℕ
   after_next it = option_map_or (λ at. at + 1) (first_from it.map.now.slots it.next) it.next
 
-  -- `stepped` is the iteration after the next item, where `f` of that item has replaced it.
+  -- `next_iteration` is the iteration after the next item, where `f` of that item has replaced it.
   -- Example: For a, b, c, of which a has been passed, it has passed a, `f b`.
-  abbrev pub stepped : IterMut T S Key H → (T → T) → IterMut T S Key H
-  stepped it f = record {
+  abbrev pub next_iteration : IterMut T S Key H → (T → T) → IterMut T S Key H
+  next_iteration it f = record {
     map = record it.map { now = next_written it f };
     next = after_next it;
     left = one_fewer it.left;
@@ -67,4 +67,4 @@ module _ (T S Key H : RattleType) (of : item.Ghosts T.Denot Key.Denot)
   -- Example: For a, b, c, of which a has been passed, if d is written, it has passed a, `put b d`.
   abbrev pub lends_next : (D : RattleType) → (T.Denot → D.Denot → T.Denot)
       → MutBor (IterMut T.Denot S.Denot Key.Denot H.Denot) → Option (MutBor D.Denot) → Fml
-  lends_next D put m r = LendsIf iter_row D m r (λ d. stepped m.now (λ x. put x d)) m.now
+  lends_next D put m r = LendsIf iter_row D m r (λ d. next_iteration m.now (λ x. put x d)) m.now

@@ -8,7 +8,7 @@ use Rattle.std.specs.declared.hash.Hash as hash
 use Rattle.std.specs.declared.hash.Hasher as hasher
 use Rattle.std.specs.declared.hash.BuildHasher as builder
 use mir.Syntax.{named}
-use Rattle.iddqd_store.specs.Bag.{Ranks, differ, like, swap}
+use Rattle.iddqd_store.specs.Bag.{Ranks, first_mismatch, tests_of, swap}
 use Rattle.iddqd_store.specs.Map.{Map, bag}
 use Rattle.iddqd_store.specs.Slots.{get}
 use Rattle.iddqd_id.specs.declared.item.IdHashItem as item
@@ -22,6 +22,7 @@ module _ {T S Key H : Type 0} {of : item.Ghosts T Key}
     {build : builder.Ghosts S H} {hashes : hasher.Ghosts H} where
   module _ (r : RefMut T S Key H of eq input build hashes) where
     -- `ref_lender` is the name of the guard's reference to the map.
+    -- Example: For what `map.get_mut(..)` returned it is the name of the reference `map`.
     abbrev pub ref_lender : GName
     ref_lender = r.map.ghost_name
 
@@ -54,7 +55,7 @@ module _ {T S Key H : Type 0} {of : item.Ghosts T Key}
     pub old : ref_item before ≡ Some x
     pub new : ref_item after ≡ Some item
     pub swaps : IsPermutation (bag (ref_map after)) (swap ranks (bag (ref_map before)) x item)
-    pub same_keys : differ (like ranks x) item ≡ None
+    pub same_keys : first_mismatch (tests_of ranks x) item ≡ None
     pub capacity : (ref_map after).capacity ≡ (ref_map before).capacity
     pub builder : (ref_map after).builder ≡ (ref_map before).builder
 

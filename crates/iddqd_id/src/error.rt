@@ -4,10 +4,10 @@
 ghost use Rattle.std.specs.Prelude.{◌≡◌, ◌≢◌, [], false, option_copied};
 ghost use Rattle.std.specs.Option.{option_and_then, option_to_list};
 ghost use Rattle.iddqd_store.specs.Map.{bag};
-ghost use Rattle.iddqd_store.specs.Bag.{clash, order};
+ghost use Rattle.iddqd_store.specs.Bag.{conflicts_of, conflicting};
 ghost use Rattle.iddqd_store.specs.Slots.{get};
 ghost use Rattle.iddqd_id.specs.Keys.{ranks};
-ghost use Rattle.iddqd_id.specs.Rekeyed.{left_out};
+ghost use Rattle.iddqd_id.specs.Rekeyed.{refused_item};
 ghost use Rattle.iddqd_id.specs.Mismatch.{error_item};
 
 use crate::item::{IdHashItem, Ranked};
@@ -35,7 +35,7 @@ pub struct InsertError<'a, T: IdHashItem, S: BuildHasher = DefaultHashBuilder> {
     pub(crate) item: T,
     pub(crate) found: Option<ItemIndex>,
     ghost found_is: { option_to_list (option_and_then (get map.now.slots) found)
-        ≡ order (ranks T.IdHashItem T.Key.eq) (bag map.now) item },
+        ≡ conflicting (ranks T.IdHashItem T.Key.eq) (bag map.now) item },
 }
 
 /// The error of `try_insert`: the item that was not inserted, and whether an item of the map has its key. If none has,
@@ -154,7 +154,7 @@ impl<T> KeyMismatch<T> {
 impl<T> NotReplaced<T> {
     /// Returns the item that was not inserted.
     pub fn item(&self) -> &T
-        ensures { result.now ≡ left_out self.now }
+        ensures { result.now ≡ refused_item self.now }
     {
         match self {
             NotReplaced::Absent(item) | NotReplaced::Duplicate(item) => item,
@@ -163,7 +163,7 @@ impl<T> NotReplaced<T> {
 
     /// Returns the item that was not inserted, by value.
     pub fn into_item(self) -> T
-        ensures { result ≡ left_out self }
+        ensures { result ≡ refused_item self }
     {
         match self {
             NotReplaced::Absent(item) | NotReplaced::Duplicate(item) => item,
@@ -258,8 +258,10 @@ impl<T: Ranked, S: BuildHasher> InsertError<'_, T, S> {
     /// Returns why the item was not inserted: `Duplicate` if an item of the map conflicts with it, otherwise `Memory`.
     /// The call compares no key.
     pub fn reason(&self) -> InsertReason
-        ensures duplicate { result ≡ InsertReason.Duplicate → clash T.ranks (bag self.now.map.now) self.now.item ≢ [] }
-        ensures none_taken { result ≡ InsertReason.Memory → clash T.ranks (bag self.now.map.now) self.now.item ≡ [] }
+        ensures duplicate { result ≡ InsertReason.Duplicate → conflicts_of T.ranks
+            (bag self.now.map.now) self.now.item ≢ [] }
+        ensures none_taken { result ≡ InsertReason.Memory → conflicts_of T.ranks (bag self.now.map.now) self.now.item
+            ≡ [] }
     {
         if self.duplicate().is_some() {
             InsertReason::Duplicate
@@ -270,7 +272,7 @@ impl<T: Ranked, S: BuildHasher> InsertError<'_, T, S> {
 
     /// Returns the item of the map that conflicts with the item, if there is one. The call searches for nothing again.
     pub fn duplicate(&self) -> Option<&T>
-        ensures { option_to_list (option_copied result) ≡ order T.ranks (bag self.now.map.now) self.now.item }
+        ensures { option_to_list (option_copied result) ≡ conflicting T.ranks (bag self.now.map.now) self.now.item }
     {
         let map = &*self.map;
         map.item_of(self.found)
@@ -299,7 +301,7 @@ impl<'a, T: Ranked, S: BuildHasher> InsertError<'a, T, S> {
     pub fn into_parts(self) -> (T, Option<&'a T>)
         ensures item { result.0 ≡ self.entry.item }
         ensures duplicate { option_to_list (option_copied result.1)
-            ≡ order T.ranks (bag self.entry.map.now) self.entry.item }
+            ≡ conflicting T.ranks (bag self.entry.map.now) self.entry.item }
     {
         let InsertError { map, item, found } = self;
         let map: &'a IdHashMap<T, S> = map;

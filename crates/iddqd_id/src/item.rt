@@ -23,6 +23,25 @@ pub trait IdHashItem {
 
 /// An item with data beside its key. A caller may write the data while the item is in a map, since its key stays
 /// equal.
+///
+/// Where a key is a field beside the data, `Prim.search rules` proves its law, whatever its type is: a number, a text,
+/// a list, a struct, an enum, or a tuple of them.
+///
+/// ```text
+/// ghost use Rattle.std.proofs.Common.{rules};
+///
+/// /// An item that is known by a text, with how often it was met.
+/// struct Met { key: String, count: u64 }
+///
+/// impl IdHashItemMut for Met {
+///     type Data = u64;
+///     ghost data_of = { λ m. m.count };
+///     ghost put = { λ m n. record m { count = n } };
+///     ghost keeps_key = { Prim.search rules };
+///     ghost put_shows = { Prim.search rules };
+///     fn data_mut(&mut self) -> &mut u64 { &mut self.count }
+/// }
+/// ```
 pub trait IdHashItemMut: IdHashItem {
     /// The type of the data that can be written.
     type Data;
@@ -39,7 +58,8 @@ pub trait IdHashItemMut: IdHashItem {
         ensures* writes_back { sem 𝓛 (Lends Self.row Self.Data.row self.entry result (put self.old)) };
 
     // Laws that an implementation has to prove: with other data put in, the item's key is equal to the old one, and
-    // its data is what was put in.
+    // its data is what was put in. Equal is as the key's own `==` says, since a key that an item makes or lends is seen
+    // as the whole item.
     ghost keeps_key: { (x : Self) (d : Self.Data) → Self.Key.eq (Self.key (put x d)) (Self.key x) ≡ true };
 
     ghost put_shows: { (x : Self) (d : Self.Data) → data_of (put x d) ≡ d };

@@ -4,7 +4,7 @@
 ghost use Rattle.std.specs.Prelude.{◌≡◌, [], length, slice_get, IfSome, IfNone};
 ghost use Rattle.std.specs.Borrow.{sem};
 ghost use Rattle.std.specs.Option.{option_and_then, option_copied_mut, option_map};
-ghost use Rattle.iddqd_id.specs.IterMuts.{lends_next, stepped, IsNextOf, IsCounted, rest_of};
+ghost use Rattle.iddqd_id.specs.IterMuts.{lends_next, next_iteration, IsNextOf, IsCounted, rest_of};
 ghost use Rattle.iddqd_id.specs.RefMuts.{ref_item, ref_map};
 
 use crate::item::{IdHashItem, IdHashItemMut};
@@ -74,7 +74,8 @@ impl<T: IdHashItemMut, S: BuildHasher> IterMut<'_, T, S> {
         ensures next { IfSome result (λ r. IsNextOf self.old) }
         ensures value { option_copied_mut result ≡ option_map T.data_of (slice_get (rest_of self.old) 0) }
         ensures end { IfNone result (rest_of self.old ≡ []) }
-        ensures counted { (f : T → T) → IsCounted self.old → IfSome result (λ r. IsCounted (stepped self.old f)) }
+        ensures counted { (f : T → T) → IsCounted self.old → IfSome result (λ r. IsCounted
+            (next_iteration self.old f)) }
         // What is written through the borrow ends in that item.
         ensures* lends { sem 𝓛 (lends_next T.row S.row T.Key.row S.Hasher.row
             T.IdHashItem T.Key.Hash S.BuildHasher S.Hasher.Hasher T.Data.row T.put self.entry result) }

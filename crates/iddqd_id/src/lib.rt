@@ -24,6 +24,7 @@ mod map;
 mod pointers;
 mod ranks;
 mod ref_mut;
+mod rows;
 
 pub use entry::{Entry, OccupiedEntry, VacantEntry};
 pub use error::{
@@ -38,6 +39,7 @@ pub use ref_mut::RefMut;
 
 // Types of `iddqd_store` that the signatures of this crate name.
 pub use iddqd_store::{
-    ByMade, ByPair, Cursor, DuplicateItem, Equivalent, Holds, InsertReason, IntoIter, Iter,
-    KeyMatcher, LendsPair, Made, MakesKey, MemoryRefused, Meter, Query, TryReserveError,
+    ByMade, ByPair, Cursor, Difference, DuplicateItem, Equivalent, HasData, Holds, InsertReason,
+    IntoIter, ItemPair, Iter, KeepsKey, KeepsMade, KeepsPair, KeyMatcher, LendsPair, Made,
+    MakesKey, MemoryRefused, Meter, Query, Row1, TryReserveError,
 };

@@ -12,11 +12,16 @@ use std::hash::Hash;
 use std::marker::Model;
 use std::ops::Deref;
 
+mod data;
+
 /// An item with a key that it makes or lends: `WithKeys<ByMade<T, 1>>`, or `ByPair` in place of it. It dereferences to
 /// the item, and contracts see the item. Its `==` is that of items, and not of keys.
 ///
 /// It takes no memory beside the item, and its own calls allocate none. The key is made or lent anew for each comparison and
 /// each hash.
+///
+/// If the item has data (`HasData`), and makes or lends the same key whatever this data is (`KeepsMade`, `KeepsPair`), a map
+/// writes its data in place, as that of any item.
 #[derive(Clone, Drop)]
 pub struct WithKeys<K> {
     key: K,

@@ -4,6 +4,7 @@ pub mod Building
 pub mod Calling
 pub mod Cancelled
 pub mod Differ
+pub mod Differing
 pub mod Entries
 pub mod Exchanges
 pub mod KeyTests

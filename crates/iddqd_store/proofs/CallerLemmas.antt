@@ -9,21 +9,21 @@ pub mod Named
 pub mod Updates
 pub mod Walks
 -- as many members conflict as are listed, and an item that conflicts with none conflicts with none in another order
-pub use Rattle.iddqd_store.proofs.BagLemmas.Steps.{length-clash}
-pub use Rattle.iddqd_store.proofs.BagLemmas.Building.{clash-none}
+pub use Rattle.iddqd_store.proofs.BagLemmas.Steps.{length-conflicts_of}
+pub use Rattle.iddqd_store.proofs.BagLemmas.Building.{conflicts_of-none}
 use Rattle.std.specs.Prelude.{◌≡◌, ℕ, zero, suc, ◌+◌, ◌<◌, Bool, true, false, cond, not, List, [], ◌∷◌, ◌++◌, length, filter, IsPermutation, Contains, Option, Some, None}
 use Rattle.std.specs.List.{IsDistinct, list_any}
 use Rattle.std.specs.Option.{option_to_list}
 use Rattle.std.proofs.Common.{refl, sym, ap, subst, ◌∙◌, arith}
 use Rattle.std.proofs.lemmas.Map.Keys.{IsDistinct-head}
 use Rattle.std.proofs.lemmas.List.Sorted.{IsPermutation-sym, IsPermutation-trans, length_permutation, Contains-permutation}
-use Rattle.iddqd_store.specs.Bag.{Ranks, AreLawful, IsSound, NamesOne, agrees, like, order, over, some_of, swap, without}
+use Rattle.iddqd_store.specs.Bag.{Ranks, AreLawful, IsSound, NamesOne, agrees, tests_of, conflicting, with_item, some_of, swap, remainder}
 use Rattle.iddqd_store.specs.Map.{Map, bag}
-use Rattle.iddqd_store.specs.Map.Walk.{passed, to_come}
+use Rattle.iddqd_store.specs.Map.Walk.{passed_items, to_come}
 use Rattle.iddqd_store.proofs.BagLemmas.Exchanges.{split, IsPermutation-filter}
-use Rattle.iddqd_store.proofs.BagLemmas.Sound.{all_pass, each_passes, IsSound-rank, named_is, none_pass, each_weaker, NamesOne-apart, Contains-filter, IsSound-IsPermutation, length-over}
-use Rattle.iddqd_store.proofs.BagLemmas.Steps.{agrees-conflicts}
-use Rattle.iddqd_store.proofs.BagLemmas.Theory.{conflicts-self, swap-IsPermutation}
+use Rattle.iddqd_store.proofs.BagLemmas.Sound.{all_pass, each_passes, IsSound-rank, named_is, none_pass, each_weaker, NamesOne-apart, Contains-filter, IsSound-IsPermutation, length-with_item}
+use Rattle.iddqd_store.proofs.BagLemmas.Steps.{agrees-do_conflict}
+use Rattle.iddqd_store.proofs.BagLemmas.Theory.{do_conflict-self, swap-IsPermutation}
 use Rattle.iddqd_store.proofs.RankLemmas.Index.{Contains-here, Contains-cons}
 use Rattle.iddqd_store.proofs.BagLemmas.Unique.{any_listed, some_item}
 use Rattle.iddqd_store.proofs.SlotLemmas.Next.{before_and_behind}
@@ -122,21 +122,21 @@ pub length-inserted : {T : Type 0} (old new : List T) (x : T) → IsPermutation 
 length-inserted old new x went_in = sym (length_permutation new (x ∷ old) went_in) ∙ omega arith
 
 -- there is one item more after an overwrite, less what was displaced
-pub length-overwritten_by : {T : Type 0} (ranks : Ranks T) (old new : List T) (x : T) → IsPermutation new (over ranks old x) → length new + length (order ranks old x) ≡ length old + 1
+pub length-overwritten_by : {T : Type 0} (ranks : Ranks T) (old new : List T) (x : T) → IsPermutation new (with_item ranks old x) → length new + length (conflicting ranks old x) ≡ length old + 1
 length-overwritten_by ranks old new x went_in =
-    omega (arith, length_permutation new (over ranks old x) went_in, length-over ranks old x, length-clash ranks old x)
+    omega (arith, length_permutation new (with_item ranks old x) went_in, length-with_item ranks old x, length-conflicts_of ranks old x)
 
 -- the items before a place of an iteration and those after it are all the items
-pub passed-to_come : {T S : Type 0} (m : Map T S) (at : ℕ) → bag m ≡ passed m at ++ to_come m at
-passed-to_come m at = sym (before_and_behind m.slots at)
+pub passed_items-to_come : {T S : Type 0} (m : Map T S) (at : ℕ) → bag m ≡ passed_items m at ++ to_come m at
+passed_items-to_come m at = sym (before_and_behind m.slots at)
 
 -- of two writes of a member, one after the other, the last one counts
 pub swap-twice : {T : Type 0} (ranks : Ranks T) → AreLawful ranks → 0 < length ranks → (old middle new : List T) (x y z : T) → agrees ranks x y ≡ true
     → IsPermutation middle (swap ranks old x y) → IsPermutation new (swap ranks middle y z) → IsPermutation new (swap ranks old x z)
 swap-twice {T} ranks laws some old middle new x y z same first last =
-    let rest : List T = without (like ranks x) old in
-    let test : T → Bool = λ w. not (some_of (like ranks y) w) in
+    let rest : List T = remainder (tests_of ranks x) old in
+    let test : T → Bool = λ w. not (some_of (tests_of ranks y) w) in
     let left : filter test (y ∷ rest) ≡ rest =
-    rw (conflicts-self ranks laws some y) (all_pass test rest (each_weaker _ _ (λ w e. ap not (sym (agrees-conflicts ranks laws x y w same)) ∙ e) rest
-    (each_passes (λ w. not (some_of (like ranks x) w)) old))) in
+    rw (do_conflict-self ranks laws some y) (all_pass test rest (each_weaker _ _ (λ w e. ap not (sym (agrees-do_conflict ranks laws x y w same)) ∙ e) rest
+    (each_passes (λ w. not (some_of (tests_of ranks x) w)) old))) in
     IsPermutation-trans _ _ _ last (subst (λ l. IsPermutation (swap ranks middle y z) (z ∷ l)) left (swap-IsPermutation ranks middle (y ∷ rest) y z first))

@@ -21,7 +21,7 @@ use Rattle.std.proofs.Common.{refl, sym, subst, ap, ◌∙◌, arith}
 use Rattle.std.proofs.lemmas.Map.Keys.{IsDistinct-cons, IsDistinct-tail}
 use Rattle.std.proofs.lemmas.List.Sorted.{IsPermutation-sym}
 use Rattle.iddqd_store.specs.Slots.{members, contents}
-use Rattle.iddqd_store.specs.Bag.{Ranks, AreLawful, IsSound, conflicts, clash}
+use Rattle.iddqd_store.specs.Bag.{Ranks, AreLawful, IsSound, do_conflict, conflicts_of}
 use Rattle.iddqd_store.specs.Rank.Keys.{IsKeyTest}
 use Rattle.iddqd_store.specs.Map.{Map, bag, MakesRoom}
 use Rattle.iddqd_store.proofs.BagLemmas.Sound.{IsSound-IsPermutation}
@@ -43,16 +43,16 @@ IsKeyTest-key eq key laws k = λ x y has. laws.congr (key x) k (key y) (laws.sym
 module _ {T : Type 0} where
   -- a sound bag with an item that nothing conflicts with is sound
   pub free_sound : (ranks : Ranks T) → AreLawful ranks → (old new : List (Option T)) (at : ℕ) (x : T) → IsSound ranks (contents old)
-      → clash ranks (contents old) x ≡ [] → IsPermutation (members new) ((at, x) ∷ members old) → IsSound ranks (contents new)
+      → conflicts_of ranks (contents old) x ≡ [] → IsPermutation (members new) ((at, x) ∷ members old) → IsSound ranks (contents new)
   free_sound ranks laws old new at x sound free moved =
       IsSound-IsPermutation ranks laws _ _ (IsPermutation-sym _ _ (contents-moves new old at x moved))
-      (IsDistinct-cons (conflicts ranks) x (contents old) (none_passes (conflicts ranks x) (contents old) free) sound)
+      (IsDistinct-cons (do_conflict ranks) x (contents old) (none_passes (do_conflict ranks x) (contents old) free) sound)
 
   -- a sound bag without one of its items is sound
   pub sound_without : (ranks : Ranks T) → AreLawful ranks → (old new : List (Option T)) (at : ℕ) (x : T) → IsSound ranks (contents old)
       → IsPermutation (members old) ((at, x) ∷ members new) → IsSound ranks (contents new)
   sound_without ranks laws old new at x sound moved =
-      IsDistinct-tail (conflicts ranks) x (contents new) (IsSound-IsPermutation ranks laws _ _ (contents-moves old new at x moved) sound)
+      IsDistinct-tail (do_conflict ranks) x (contents new) (IsSound-IsPermutation ranks laws _ _ (contents-moves old new at x moved) sound)
 
   -- a sound bag without some of its items is sound
   pub sound_left : (ranks : Ranks T) → AreLawful ranks → (old taken new : List T) → IsSound ranks old → IsPermutation old (taken ++ new) → IsSound ranks new
@@ -60,7 +60,7 @@ module _ {T : Type 0} where
     where
       behind : (front : List T) → IsSound ranks (front ++ new) → IsSound ranks new
       behind [] whole = whole
-      behind (x ∷ front) whole = behind front (IsDistinct-tail (conflicts ranks) x (front ++ new) whole)
+      behind (x ∷ front) whole = behind front (IsDistinct-tail (do_conflict ranks) x (front ++ new) whole)
 
 pub on_err : {A E P : Type 0} (r : Result A E) → P → OnErr r P
 on_err (Ok _) p = tt

@@ -1,6 +1,6 @@
 -- Words for the contracts of callers of the maps.
 use Rattle.std.specs.Prelude.{◌≡◌, ◌≢◌, ◌⊎◌, List, [], ◌∷◌, ◌++◌, length, IsPermutation}
-use Rattle.iddqd_store.specs.Bag.{Entry, vacant, unique, non_unique, IsSound, Ranks, clash, swap}
+use Rattle.iddqd_store.specs.Bag.{Entry, vacant, unique, non_unique, IsSound, Ranks, conflicts_of, swap}
 use Rattle.iddqd_store.specs.Bag.Building.{IsReason}
 use Rattle.iddqd_store.specs.Map.{Map, bag}
 use Rattle.iddqd_store.specs.declared.error.InsertReason.{InsertReason}
@@ -13,7 +13,7 @@ GainsBoth {T} old a b new = (middle : List T) × IsPermutation middle (a ∷ old
 -- An insert of `x` may fail, because something conflicts with `x` or because the map is full.
 -- Example: With the capacity 7 the insert of (1, 40) into the bag may fail, and that of (4, 40) may not.
 abbrev pub MayRefuse : {T S : Type 0} → Ranks T → Map T S → T → Type 0
-MayRefuse ranks m x = (clash ranks (bag m) x ≢ []) ⊎ (length (bag m) ≡ m.capacity)
+MayRefuse ranks m x = (conflicts_of ranks (bag m) x ≢ []) ⊎ (length (bag m) ≡ m.capacity)
 
 -- The batch has `x`; the items before `x` conflict neither with each other nor with those of `old`, and some item of
 -- these or of `old` conflicts with `x` exactly if the reason is `Duplicate`.
@@ -21,7 +21,7 @@ MayRefuse ranks m x = (clash ranks (bag m) x ≢ []) ⊎ (length (bag m) ≡ m.c
 abbrev pub IsRejected : {T : Type 0} → Ranks T → List T → List T → T → InsertReason → Type 0
 IsRejected {T} ranks old batch x reason =
     (before : List T) × (behind : List T) × (batch ≡ before ++ x ∷ behind) × IsSound ranks (before ++ old)
-    × IsReason reason (clash ranks (before ++ old) x)
+    × IsReason reason (conflicts_of ranks (before ++ old) x)
 
 module _ {T : Type 0} (ranks : Ranks T) (write : T → T) (old : List T) (x : T) where
   -- The item `x` was added to the bag, and then `write x` was put in its place.

@@ -1,9 +1,11 @@
 pub mod Bag
 pub mod Callers
+pub mod Differing
 pub mod Errors
 pub mod Map
 pub mod Queries
 pub mod Rank
 pub mod Searched
+pub mod SlotMap
 pub mod Slots
 pub mod Table

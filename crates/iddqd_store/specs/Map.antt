@@ -9,7 +9,7 @@ use Rattle.std.specs.Coded.{Coded, code_by, coded×, coded_ℕ, coded_list, code
 use Rattle.std.specs.Hash.{HashWrites}
 use Rattle.std.specs.declared.hash.Hasher as hasher
 use Rattle.std.specs.declared.hash.BuildHasher as builder
-use Rattle.iddqd_store.specs.Bag.{IsSound, Ranks, clash, order, over}
+use Rattle.iddqd_store.specs.Bag.{IsSound, Ranks, conflicts_of, conflicting, with_item}
 use Rattle.iddqd_store.specs.Slots.Found.{StandAt}
 use Rattle.iddqd_store.specs.Slots.{contents, get}
 use Rattle.iddqd_store.specs.Table.Limit.{most_room}
@@ -56,7 +56,8 @@ pub record Loses {T S : Type 0} (old : Map T S) (gone : List T) (new : Map T S) 
   pub same_builder : new.builder ≡ old.builder
 
 -- The map has the items `xs`, of which `item` is in the slot `slot`. They are sound and fit, and the capacity and the
--- builder stay. No public clause cites it.
+-- builder stay. No clause of a map cites it.
+-- Example: Once (4, 40) is in the slot 3 of a map of the bag, it holds for that slot and (4, 40), (1, 10), (2, 20), (3, 30).
 pub record PutsAt {T S : Type 0} (ranks : Ranks T) (old : Map T S) (slot : ℕ) (item : T) (xs : List T)
     (new : Map T S) : Type 0 where
   pub at : get new.slots slot ≡ Some item
@@ -66,15 +67,15 @@ pub record PutsAt {T S : Type 0} (ranks : Ranks T) (old : Map T S) (slot : ℕ) 
   pub same_room : new.capacity ≡ old.capacity
   pub same_builder : new.builder ≡ old.builder
 
--- The item is in the map in the place of those that conflict with it (`over`), and the items fit. The capacity grows
+-- The item is in the map in the place of those that conflict with it (`with_item`), and the items fit. The capacity grows
 -- only if the map was full and nothing conflicts with the item, and nothing else changes.
 -- Example: A map of the bag, overwritten with (1, 20), has (1, 20), (3, 30).
 pub record Overwrites {T S : Type 0} (ranks : Ranks T) (old : Map T S) (item : T) (new : Map T S) : Type 0 where
-  pub items : IsPermutation (bag new) (over ranks (bag old) item)
+  pub items : IsPermutation (bag new) (with_item ranks (bag old) item)
   pub fits : length (bag new) ≤ new.capacity
   pub no_less_room : old.capacity ≤ new.capacity
   pub same_room : length (bag old) < old.capacity → new.capacity ≡ old.capacity
-  pub no_growth : clash ranks (bag old) item ≢ [] → new.capacity ≡ old.capacity
+  pub no_growth : conflicts_of ranks (bag old) item ≢ [] → new.capacity ≡ old.capacity
   pub same_builder : new.builder ≡ old.builder
 
 -- The capacity is no lower, and it stays if `fits` holds, which says that the items were certain to fit. The builder
@@ -97,7 +98,8 @@ pub record MakesRoom {T S A E : Type 0} (old : Map T S) (more : ℕ) (result : R
   pub same_room : length (bag old) + more ≤ old.capacity → new.capacity ≡ old.capacity
   pub same_builder : new.builder ≡ old.builder
 
--- The map makes room for `more` items, and no slot changes. After an error it is as it was. No public clause cites it.
+-- The map makes room for `more` items, and no slot changes. After an error it is as it was. No clause of a map cites it.
+-- Example: With 3 items and the capacity 7 it holds for 4 more items if nothing changed.
 pub record Reserves {T S A E : Type 0} (old : Map T S) (more : ℕ) (result : Result A E) (new : Map T S) : Type 0 where
   pub slots : new.slots ≡ old.slots
   pub room : MakesRoom old more result new
@@ -112,14 +114,14 @@ shrunk_to held least capacity = max held (min least capacity)
 -- Nothing conflicts with `x`, and the map is full.
 -- Example: With the capacity 3, a map of the bag is full for (4, 40), and not for (1, 40).
 pub record IsFullFor {T S : Type 0} (ranks : Ranks T) (m : Map T S) (x : T) : Type 0 where
-  pub free : clash ranks (bag m) x ≡ []
+  pub free : conflicts_of ranks (bag m) x ≡ []
   pub full : length (bag m) ≡ m.capacity
 
 -- The items that conflict with `x` are in these slots, in the order of the keys of `x`. No public clause cites it.
 abbrev pub ListsConflicts : {T S : Type 0} → Ranks T → Map T S → T → List ℕ → Type 0
-ListsConflicts ranks m x found = StandAt m.slots found (order ranks (bag m) x)
+ListsConflicts ranks m x found = StandAt m.slots found (conflicting ranks (bag m) x)
 
 -- Something conflicts with `x`, and these are the slots of what does. No public clause cites it.
-pub record IsBlockedAt {T S : Type 0} (ranks : Ranks T) (m : Map T S) (x : T) (at : List ℕ) : Type 0 where
-  pub some : clash ranks (bag m) x ≢ []
+pub record ConflictsAt {T S : Type 0} (ranks : Ranks T) (m : Map T S) (x : T) (at : List ℕ) : Type 0 where
+  pub some : conflicts_of ranks (bag m) x ≢ []
   pub found : ListsConflicts ranks m x at

@@ -23,9 +23,11 @@ module _ {F V : Type 0} where
   IfVacant (Vacant at) P = P at
 
   -- `P` holds, if the search found anything.
+  -- Example: For `Found 2` it is `P`, and for `Vacant at` it says nothing.
   abbrev pub OnFound : Searched F V → Type 0 → Type 0
   OnFound r P = IfFound r (λ _. P)
 
   -- `P` holds, if the search found nothing.
+  -- Example: For `Vacant at` it is `P`, and for `Found 2` it says nothing.
   abbrev pub OnVacant : Searched F V → Type 0 → Type 0
   OnVacant r P = IfVacant r (λ _. P)

@@ -44,7 +44,7 @@ pub use vacancy::Vacancy;
 /// Reading what a cell has is a probe. Only `Cells::cell_at` probes, and it counts the probe on the meter that it is
 /// given. The clauses `probe`, `probes`, `no_probe` and `costs` count probes. Growth and `clone` also copy cells, which
 /// is no probe. A function whose clauses count no probes may make a meter of its own: in this file none does. A function
-/// that takes a meter makes no other, which the script `tests/metered_cells` checks.
+/// that takes a meter makes no other, which the script `metered_cells` checks.
 #[derive(Drop)]
 pub struct IndexTable {
     alloc: Global,

@@ -155,11 +155,16 @@ impl<T> ItemSet<T> {
         self.slots.capacity()
     }
 
+    /// Returns the allocator with which the set was made. No clause says which, since all `Global`s are equal.
+    pub fn allocator(&self) -> Global {
+        *self.slots.allocator()
+    }
+
     /// Makes an empty record of the items that a batch inserts. It allocates nothing.
     pub fn empty_batch(&self) -> Batch<T>
         ensures { result.slots ≡ [] }
     {
-        Batch::new(*self.slots.allocator())
+        Batch::new(self.allocator())
     }
 
     /// Returns the item of a live slot, or `None` for any other number.

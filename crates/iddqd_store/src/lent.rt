@@ -33,7 +33,7 @@ pub trait LendsPair<A, B, const RANK: usize> {
 /// A lookup takes a pair of queries, one for each part: `get1((name, &number))`.
 #[derive(Clone, Drop)]
 pub struct ByPair<T, A, B, const RANK: usize> {
-    value: T,
+    pub(crate) value: T,
     parts: PhantomData<(A, B)>,
 }
 

@@ -60,7 +60,7 @@ pub trait MakesKey<const RANK: usize> {
 /// A lookup takes the key, as `Made`.
 #[derive(Clone, Drop)]
 pub struct ByMade<T, const RANK: usize> {
-    value: T,
+    pub(crate) value: T,
 }
 
 impl<T, const RANK: usize> Model for ByMade<T, RANK> {

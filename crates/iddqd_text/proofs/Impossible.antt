@@ -5,8 +5,8 @@ use Rattle.std.specs.Fmt.{digits}
 use Rattle.std.specs.List.{flat_map, position_from}
 use Rattle.std.proofs.lemmas.List.{nil_from_length}
 use Rattle.std.proofs.lemmas.List.Sorted.{IsPermutation-sym, IsPermutation-trans, length_permutation}
-use Rattle.iddqd_store.proofs.BagLemmas.Sound.{same_from_short, length-over}
-use Rattle.iddqd_store.proofs.BagLemmas.Steps.{length-clash}
+use Rattle.iddqd_store.proofs.BagLemmas.Sound.{same_from_short, length-with_item}
+use Rattle.iddqd_store.proofs.BagLemmas.Steps.{length-conflicts_of}
 use Rattle.iddqd_bi.specs.Keys.{ranks}
 use Rattle.iddqd_commands.specs.Reply.{Reply, done, duplicate, displaced, taken, memory, refused}
 use Rattle.iddqd_commands_bi.specs.declared.command.BiCommand.TheVariants.{InsertUnique, InsertOverwrite, Remove1, Reserve}
@@ -83,8 +83,8 @@ no_memory_after_displacing_two run =
       three.1.2,
       four.1.2,
       ap length three.1.0,
-      length-clash ranks two.0.items over_both,
-      length-over ranks two.0.items over_both,
+      length-conflicts_of ranks two.0.items over_both,
+      length-with_item ranks two.0.items over_both,
     )
 
 -- The same for what is printed. The first bytes of lines distinguish them.

@@ -23,7 +23,7 @@ use Rattle.iddqd_tri.specs.declared.entry.OccupiedEntryMut.{OccupiedEntryMut}
 use Rattle.iddqd_tri.specs.declared.error.EntryRefusal.{EntryRefusal}
 use Rattle.iddqd_store.specs.Callers.{InsertsOrWrites}
 -- nothing conflicts with an item exactly if its keys find nothing
-pub use Rattle.iddqd_store.proofs.BagLemmas.Steps.{clash-empty, order-empty}
+pub use Rattle.iddqd_store.proofs.BagLemmas.Steps.{conflicts_of-empty, conflicting-empty}
 use Rattle.iddqd_store.proofs.CallerLemmas.Entries.{IsInsertedOrHeld, occupied_as, one_not, one_unique, writes_found}
 
 module _ {T S K1 K2 K3 H : Type 0} (m : OccupiedEntryMut T S K1 K2 K3 H) where

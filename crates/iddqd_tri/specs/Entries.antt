@@ -11,7 +11,7 @@ use Rattle.std.specs.declared.hash.Hash as hash
 use Rattle.std.specs.declared.hash.Hasher as hasher
 use Rattle.std.specs.declared.hash.BuildHasher as builder
 use mir.Syntax.{named}
-use Rattle.iddqd_store.specs.Bag.{IsOnly, Ranks, differ, entry, listing, over, unique, vacant}
+use Rattle.iddqd_store.specs.Bag.{IsOnly, Ranks, first_mismatch, entry, listing, with_item, unique, vacant}
 use Rattle.iddqd_store.specs.Bag as bags
 use Rattle.iddqd_store.specs.Map.{Map, bag, Gains}
 use Rattle.iddqd_store.specs.Map.Written.{map_with_if}
@@ -61,6 +61,7 @@ module _ {T S Q1 Q2 Q3 K1 K2 K3 H : Type 0} where
     pub some : listing (entry_tests tests o) (bag o.map.now) ≢ []
 
   -- The occupied entries have the same keys, and the same slots of the map.
+  -- Example: It holds for an entry that has found a and b, before and after new data are written to a.
   pub record FindsSame (o p : OccupiedEntry T S Q1 Q2 Q3 K1 K2 K3 H) : Type 0 where
     pub query1 : p.query1 ≡ o.query1
     pub query2 : p.query2 ≡ o.query2
@@ -76,7 +77,7 @@ module _ {T S Q1 Q2 Q3 K1 K2 K3 H : Type 0} where
   pub record PutsOver (ranks : Ranks T) (tests : Q1 → Q2 → Q3 → List (T → Bool))
       (before : OccupiedEntry T S Q1 Q2 Q3 K1 K2 K3 H) (item : T) (after : OccupiedEntry T S Q1 Q2 Q3 K1 K2 K3 H) : Type 0 where
     pub same_map : after.map.ghost_name ≡ before.map.ghost_name
-    pub items : IsPermutation (bag after.map.now) (over ranks (bag before.map.now) item)
+    pub items : IsPermutation (bag after.map.now) (with_item ranks (bag before.map.now) item)
     pub has_found : HasFound tests after
     pub unique : entry (entry_tests tests after) (bag after.map.now) ≡ unique item
     pub keys : (after.query1 ≡ before.query1) × (after.query2 ≡ before.query2) × (after.query3 ≡ before.query3)
@@ -92,6 +93,7 @@ module _ {T S K1 K2 K3 H : Type 0} where
     pub live3 : IfSome m.slot3 (IsLive m.map.now.slots)
 
   -- The items of the same slots are held.
+  -- Example: It holds for what is held, before and after new data are written to it.
   pub record HoldsSame (m n : OccupiedEntryMut T S K1 K2 K3 H) : Type 0 where
     pub same1 : n.slot1 ≡ m.slot1
     pub same2 : n.slot2 ≡ m.slot2
@@ -106,26 +108,26 @@ module _ {T S K1 K2 K3 H : Type 0} where
   abbrev held_slots : OccupiedEntryMut T S K1 K2 K3 H → List (Option ℕ)
   held_slots m = m.slot1 ∷ m.slot2 ∷ m.slot3 ∷ []
 
-  -- `held` lists the items that are held for writing, each once.
+  -- `held_items` lists the items that are held for writing, each once.
   -- Example: If every key names a, it is a.
-  abbrev pub held : OccupiedEntryMut T S K1 K2 K3 H → List T
-  held m = held_at m.map.now.slots (held_slots m)
+  abbrev pub held_items : OccupiedEntryMut T S K1 K2 K3 H → List T
+  held_items m = held_at m.map.now.slots (held_slots m)
 
   -- `held_entry` is what is held for writing, as an `Entry`.
   -- Example: If every key names a, it is `unique a`.
   abbrev pub held_entry : OccupiedEntryMut T S K1 K2 K3 H → bags.Entry T
   held_entry m = entry_at m.map.now.slots (held_slots m)
 
-  -- `held1` is the item that is held for the first key, if there is one.
+  -- `held_item1` is the item that is held for the first key, if there is one.
   -- Example: If every key names a, it is `Some a`.
-  abbrev pub held1 : OccupiedEntryMut T S K1 K2 K3 H → Option T
-  held1 m = option_and_then (get m.map.now.slots) m.slot1
+  abbrev pub held_item1 : OccupiedEntryMut T S K1 K2 K3 H → Option T
+  held_item1 m = option_and_then (get m.map.now.slots) m.slot1
 
-  abbrev pub held2 : OccupiedEntryMut T S K1 K2 K3 H → Option T
-  held2 m = option_and_then (get m.map.now.slots) m.slot2
+  abbrev pub held_item2 : OccupiedEntryMut T S K1 K2 K3 H → Option T
+  held_item2 m = option_and_then (get m.map.now.slots) m.slot2
 
-  abbrev pub held3 : OccupiedEntryMut T S K1 K2 K3 H → Option T
-  held3 m = option_and_then (get m.map.now.slots) m.slot3
+  abbrev pub held_item3 : OccupiedEntryMut T S K1 K2 K3 H → Option T
+  held_item3 m = option_and_then (get m.map.now.slots) m.slot3
 
   -- `unique_slot` is the slot of the item that has all keys, if there is one.
   -- Example: If every key names a, in the slot 2, it is `Some 2`.
@@ -149,11 +151,11 @@ module _ {T S Q1 Q2 Q3 K1 K2 K3 H : Type 0} where
     -- Example: If the entry has found a and b, then a and b are held.
     pub record HoldsFound (m : OccupiedEntryMut T S K1 K2 K3 H) : Type 0 where
       pub holds : Holds m
-      pub listed : held m ≡ listing (entry_tests (key_tests of stands1 stands2 stands3) o) (bag o.map.now)
+      pub listed : held_items m ≡ listing (entry_tests (key_tests of stands1 stands2 stands3) o) (bag o.map.now)
       pub value : held_entry m ≡ entry (entry_tests (key_tests of stands1 stands2 stands3) o) (bag o.map.now)
-      pub by_key1 : IsOnly (has1 of stands1 o.query1) (bag o.map.now) (held1 m)
-      pub by_key2 : IsOnly (has2 of stands2 o.query2) (bag o.map.now) (held2 m)
-      pub by_key3 : IsOnly (has3 of stands3 o.query3) (bag o.map.now) (held3 m)
+      pub by_key1 : IsOnly (has1 of stands1 o.query1) (bag o.map.now) (held_item1 m)
+      pub by_key2 : IsOnly (has2 of stands2 o.query2) (bag o.map.now) (held_item2 m)
+      pub by_key3 : IsOnly (has3 of stands3 o.query3) (bag o.map.now) (held_item3 m)
 
     -- The call succeeds and changes nothing, and if the entry has found what its keys name, then that is held for
     -- writing.
@@ -177,16 +179,19 @@ module _ {T S K1 K2 K3 H : Type 0} {of : item.Ghosts T K1 K2 K3}
       {q2 : query.Ghosts Q2 K2} {e2 : equal.Ghosts Q2} {w2 : hash.Ghosts Q2}
       {q3 : query.Ghosts Q3 K3} {e3 : equal.Ghosts Q3} {w3 : hash.Ghosts Q3} where
     -- `entry_lender` is the name of the entry's reference to the map.
+    -- Example: For what `map.entry(..)` returned it is the name of the reference `map`.
     abbrev pub entry_lender : Entry T S Q1 Q2 Q3 K1 K2 K3 H of eq1 input1 eq2 input2 eq3 input3 build hashes q1 w1 e1 q2 w2 e2 q3 w3 e3 → GName
     entry_lender (Vacant e) = e.map.ghost_name
     entry_lender (Occupied e) = e.map.ghost_name
 
     -- `entry_map` is the map of the entry.
+    -- Example: For an entry of a map of a, b it has a, b.
     abbrev pub entry_map : Entry T S Q1 Q2 Q3 K1 K2 K3 H of eq1 input1 eq2 input2 eq3 input3 build hashes q1 w1 e1 q2 w2 e2 q3 w3 e3 → Map T S
     entry_map (Vacant e) = e.map.now
     entry_map (Occupied e) = e.map.now
 
     -- `entry_key1` is the entry's query for the first key.
+    -- Example: For what `map.entry(query1, query2, query3)` returned it is `query1`.
     abbrev pub entry_key1 : Entry T S Q1 Q2 Q3 K1 K2 K3 H of eq1 input1 eq2 input2 eq3 input3 build hashes q1 w1 e1 q2 w2 e2 q3 w3 e3 → Q1
     entry_key1 (Vacant e) = e.query1
     entry_key1 (Occupied e) = e.query1
@@ -200,6 +205,7 @@ module _ {T S K1 K2 K3 H : Type 0} {of : item.Ghosts T K1 K2 K3}
     entry_key3 (Occupied e) = e.query3
 
     -- The entry has these queries for its keys.
+    -- Example: It holds for what `map.entry(k1, k2, k3)` returned.
     pub record HasKeys (e : Entry T S Q1 Q2 Q3 K1 K2 K3 H of eq1 input1 eq2 input2 eq3 input3 build hashes q1 w1 e1 q2 w2 e2 q3 w3 e3)
         (k1 : Q1) (k2 : Q2) (k3 : Q3) : Type 0 where
       pub key1 : entry_key1 e ≡ k1
@@ -227,10 +233,10 @@ module _ {T S K1 K2 K3 H : Type 0} {of : item.Ghosts T K1 K2 K3}
     OnOccupied (Occupied e) P = P e
 
     module _ (e : VacantEntry T S Q1 Q2 Q3 K1 K2 K3 H of eq1 input1 eq2 input2 eq3 input3 build hashes q1 w1 e1 q2 w2 e2 q3 w3 e3) where
-      -- `wanted` has for each rank the test whether an item has the key of the vacant entry.
+      -- `vacant_tests` has for each rank the test whether an item has the key of the vacant entry.
       -- Example: No item of the map passes one of them.
-      abbrev pub wanted : List (T → Bool)
-      wanted = key_tests of q1.stands_for q2.stands_for q3.stands_for e.query1 e.query2 e.query3
+      abbrev pub vacant_tests : List (T → Bool)
+      vacant_tests = key_tests of q1.stands_for q2.stands_for q3.stands_for e.query1 e.query2 e.query3
 
       -- The item `x` was inserted into this very map (`Gains`), and the guard `r` borrows it.
       -- Example: A map of a, b becomes `x`, a, b, and `ref_item r` is `Some x`.
@@ -241,17 +247,17 @@ module _ {T S K1 K2 K3 H : Type 0} {of : item.Ghosts T K1 K2 K3}
         pub gains : Gains e.map.now x (ref_map r)
 
       -- The item `x` was inserted into this very map (`Gains`), and is held for writing, by each of its keys.
-      -- Example: A map of a, b becomes `x`, a, b, and `held` is `x`.
+      -- Example: A map of a, b becomes `x`, a, b, and `held_items` is `x`.
       pub record GainsAndHolds (x : T) (m : OccupiedEntryMut T S K1 K2 K3 H) : Type 0 where
         pub same_map : m.map.ghost_name ≡ e.map.ghost_name
         pub gains : Gains e.map.now x m.map.now
         pub holds : Holds m
-        pub held : held m ≡ x ∷ []
+        pub held : held_items m ≡ x ∷ []
         pub unique : held_entry m ≡ unique x
         pub unique_held : held_unique m ≡ Some x
-        pub by_key1 : held1 m ≡ Some x
-        pub by_key2 : held2 m ≡ Some x
-        pub by_key3 : held3 m ≡ Some x
+        pub by_key1 : held_item1 m ≡ Some x
+        pub by_key2 : held_item2 m ≡ Some x
+        pub by_key3 : held_item3 m ≡ Some x
 
       -- The item `x` was inserted into the map of the vacant entry and is held for writing (`GainsAndHolds`), or the
       -- error returns it (`HandsBack`) and the map is as it was. The call succeeds if `x` has the keys of the entry and
@@ -260,11 +266,11 @@ module _ {T S K1 K2 K3 H : Type 0} {of : item.Ghosts T K1 K2 K3}
       pub record PutsIn (x : T)
           (result : Result (OccupiedEntryMut T S K1 K2 K3 H) (EntryRefusal T S K1 K2 K3 H)) : Type 0 where
         pub gains_and_holds : IfOk result (GainsAndHolds x)
-        pub same_keys : OnOk result (differ wanted x ≡ None)
-        pub granted : differ wanted x ≡ None → length (bag e.map.now) < e.map.now.capacity → IsOk result
+        pub same_keys : OnOk result (first_mismatch vacant_tests x ≡ None)
+        pub granted : first_mismatch vacant_tests x ≡ None → length (bag e.map.now) < e.map.now.capacity → IsOk result
         pub unchanged : IfErr result (λ refusal. refusal.map.now ≡ e.map.now)
         pub hands_back : IfErr result (λ refusal.
-            HandsBack (ranks of eq1.eq eq2.eq eq3.eq) wanted e.map.now x refusal.error)
+            HandsBack (ranks of eq1.eq eq2.eq eq3.eq) vacant_tests e.map.now x refusal.error)
 
       -- The item `x`, which a closure made, was inserted into the map of the vacant entry and is held for writing
       -- (`GainsAndHolds`), or the error is that of the entry and returns it (`HandsBack`). The call succeeds if `x` has
@@ -273,10 +279,10 @@ module _ {T S K1 K2 K3 H : Type 0} {of : item.Ghosts T K1 K2 K3}
       pub record PutsMadeIn {E : Type 0} (x : T)
           (result : Result (OccupiedEntryMut T S K1 K2 K3 H) (TryEntryRefusal T E S K1 K2 K3 H)) : Type 0 where
         pub gains_and_holds : IfOk result (GainsAndHolds x)
-        pub same_keys : OnOk result (differ wanted x ≡ None)
-        pub granted : differ wanted x ≡ None → length (bag e.map.now) < e.map.now.capacity → IsOk result
+        pub same_keys : OnOk result (first_mismatch vacant_tests x ≡ None)
+        pub granted : first_mismatch vacant_tests x ≡ None → length (bag e.map.now) < e.map.now.capacity → IsOk result
         pub hands_back : IfErr result (λ refusal.
-            IsInsert refusal.error (HandsBack (ranks of eq1.eq eq2.eq eq3.eq) wanted e.map.now x))
+            IsInsert refusal.error (HandsBack (ranks of eq1.eq eq2.eq eq3.eq) vacant_tests e.map.now x))
 
       -- The item that the closure made is inserted (`PutsMadeIn`), or the closure's error is returned
       -- (`FailsAsClosure`).
@@ -319,7 +325,7 @@ module _ {T S K1 K2 K3 H : Type 0} {of : item.Ghosts T K1 K2 K3}
       pub gains : Gains e.map.now x o.map.now
       pub keys : (o.query1 ≡ e.query1) × (o.query2 ≡ e.query2) × (o.query3 ≡ e.query3)
       pub has_found : HasFound (key_tests of q1.stands_for q2.stands_for q3.stands_for) o
-      pub unique : entry (wanted e) (bag o.map.now) ≡ unique x
+      pub unique : entry (vacant_tests e) (bag o.map.now) ≡ unique x
 
 module _ (T S K1 K2 K3 H : RattleType) (of : item.Ghosts T.Denot K1.Denot K2.Denot K3.Denot)
     (keys1 : HashMembers K1.Denot) (keys2 : HashMembers K2.Denot) (keys3 : HashMembers K3.Denot)

@@ -14,6 +14,7 @@ pub use Rattle.iddqd_store.specs.Bag.Building
 pub use Rattle.iddqd_store.specs.Bag.Calling
 pub use Rattle.iddqd_store.specs.Bag.Storing
 pub use Rattle.iddqd_store.specs.Callers
+pub use Rattle.iddqd_store.specs.Differing
 pub use Rattle.iddqd_store.specs.Map
 pub use Rattle.iddqd_store.specs.Map.Extracting
 pub use Rattle.iddqd_store.specs.Map.State

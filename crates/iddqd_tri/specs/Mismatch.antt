@@ -2,7 +2,7 @@
 
 -- Why an item may not replace others: the item, and the rank at which its key differs, counted from 0.
 use Rattle.std.specs.Prelude.{◌≡◌, ℕ, Bool, List, Option, Some, None}
-use Rattle.iddqd_store.specs.Bag.{Ranks, differ}
+use Rattle.iddqd_store.specs.Bag.{Ranks, first_mismatch}
 use Rattle.iddqd_store.specs.Map.{Map, IsFullFor}
 use Rattle.iddqd_tri.specs.declared.error.KeyMismatch.{KeyMismatch}
 use Rattle.iddqd_tri.specs.declared.error.KeyMismatch.TheVariants as mismatch
@@ -49,7 +49,7 @@ module _ {T : Type 0} where
   pub record HandsBack {S : Type 0} (ranks : Ranks T) (tests : List (T → Bool))
       (m : Map T S) (x : T) (error : EntryError T) : Type 0 where
     pub handed_back : error_item error ≡ x
-    pub rank : differ tests x ≡ error_rank error
+    pub rank : first_mismatch tests x ≡ error_rank error
     pub memory : error_rank error ≡ None → IsFullFor ranks m x
 
   -- The error is that of the entry, and `P` holds for that error.

@@ -2,7 +2,7 @@
 
 -- An item that replaces another, whatever their keys are.
 use Rattle.std.specs.Prelude.{◌≡◌, ◌≢◌, ◌≤◌, ℕ, Bool, List, [], ◌∷◌, length, Some, None, Result, Err, IsPermutation}
-use Rattle.iddqd_store.specs.Bag.{IsOnly, Ranks, clash}
+use Rattle.iddqd_store.specs.Bag.{IsOnly, Ranks, conflicts_of}
 use Rattle.iddqd_store.specs.Map.{Map, bag}
 use Rattle.iddqd_store.specs.Rank.{Costs, SearchCosts}
 use Rattle.iddqd_store.specs.Rank.All.{PlacingCosts}
@@ -10,11 +10,11 @@ use Rattle.iddqd_tri.specs.declared.error.NotReplaced.{NotReplaced}
 use Rattle.iddqd_tri.specs.declared.error.NotReplaced.TheVariants as unreplaced
 
 module _ {T : Type 0} where
-  -- `left_out` is the item that did not replace another.
+  -- `refused_item` is the item that did not replace another.
   -- Example: For `Absent x` it is `x`.
-  abbrev pub left_out : NotReplaced T → T
-  left_out (unreplaced.Absent x) = x
-  left_out (unreplaced.Duplicate x) = x
+  abbrev pub refused_item : NotReplaced T → T
+  refused_item (unreplaced.Absent x) = x
+  refused_item (unreplaced.Duplicate x) = x
 
   -- In the map `y` has replaced the item `x`: the new items and `x` are the old items and `y`. Nothing else changes.
   -- Example: A map of the bag in which (4, 10) is in the place of (1, 10) has (4, 10), (2, 20), (3, 30).
@@ -30,7 +30,7 @@ module _ {T : Type 0} where
   abbrev pub TellsWhyNot : Ranks T → (T → Bool) → List T → T → NotReplaced T → Type 0
   TellsWhyNot ranks test old y (unreplaced.Absent e) = IsOnly test old None
   TellsWhyNot ranks test old y (unreplaced.Duplicate e) =
-      (x : T) × (rest : List T) × IsOnly test old (Some x) × IsPermutation old (x ∷ rest) × (clash ranks rest y ≢ [])
+      (x : T) × (rest : List T) × IsOnly test old (Some x) × IsPermutation old (x ∷ rest) × (conflicts_of ranks rest y ≢ [])
 
   -- A search by one rank, for an item that another one is to replace, costs what `SearchCosts` says. If it finds one,
   -- the call then searches at each rank for the keys of the new item, and walks this often through each table

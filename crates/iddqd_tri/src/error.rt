@@ -3,10 +3,10 @@
 //! Made by tests/widths from crates/iddqd_bi/src/error.rt: change that file.
 ghost use Rattle.std.specs.Prelude.{◌≡◌, ◌≢◌, ◌<◌, [], Some, map, false};
 ghost use Rattle.iddqd_store.specs.Map.{bag};
-ghost use Rattle.iddqd_store.specs.Bag.{clash, order};
+ghost use Rattle.iddqd_store.specs.Bag.{conflicts_of, conflicting};
 ghost use Rattle.iddqd_store.specs.Slots.Found.{items_at};
 ghost use Rattle.iddqd_tri.specs.Keys.{ranks};
-ghost use Rattle.iddqd_tri.specs.Rekeyed.{left_out};
+ghost use Rattle.iddqd_tri.specs.Rekeyed.{refused_item};
 ghost use Rattle.iddqd_tri.specs.Mismatch.{error_item, error_rank, mismatch_item, mismatch_rank};
 
 use crate::item::{Ranked, TriHashItem};
@@ -34,7 +34,7 @@ pub struct InsertError<'a, T: TriHashItem, S: BuildHasher = DefaultHashBuilder> 
     pub(crate) item: T,
     pub(crate) found: UpToThree<ItemIndex>,
     ghost found_is: { items_at map.now.slots found
-        ≡ order (ranks T.TriHashItem T.K1.eq T.K2.eq T.K3.eq) (bag map.now) item },
+        ≡ conflicting (ranks T.TriHashItem T.K1.eq T.K2.eq T.K3.eq) (bag map.now) item },
 }
 
 /// The error of `try_insert`: the item that was not inserted, and which of its keys items of the map have. If none is
@@ -193,7 +193,7 @@ impl<T> KeyMismatch<T> {
 impl<T> NotReplaced<T> {
     /// Returns the item that was not inserted.
     pub fn item(&self) -> &T
-        ensures { result.now ≡ left_out self.now }
+        ensures { result.now ≡ refused_item self.now }
     {
         match self {
             NotReplaced::Absent(item) | NotReplaced::Duplicate(item) => item,
@@ -202,7 +202,7 @@ impl<T> NotReplaced<T> {
 
     /// Returns the item that was not inserted, by value.
     pub fn into_item(self) -> T
-        ensures { result ≡ left_out self }
+        ensures { result ≡ refused_item self }
     {
         match self {
             NotReplaced::Absent(item) | NotReplaced::Duplicate(item) => item,
@@ -315,8 +315,10 @@ impl<T: Ranked, S: BuildHasher> InsertError<'_, T, S> {
     /// Returns why the item was not inserted: `Duplicate` if an item of the map conflicts with it, otherwise `Memory`.
     /// The call compares no key.
     pub fn reason(&self) -> InsertReason
-        ensures duplicate { result ≡ InsertReason.Duplicate → clash T.ranks (bag self.now.map.now) self.now.item ≢ [] }
-        ensures none_taken { result ≡ InsertReason.Memory → clash T.ranks (bag self.now.map.now) self.now.item ≡ [] }
+        ensures duplicate { result ≡ InsertReason.Duplicate → conflicts_of T.ranks
+            (bag self.now.map.now) self.now.item ≢ [] }
+        ensures none_taken { result ≡ InsertReason.Memory → conflicts_of T.ranks (bag self.now.map.now) self.now.item
+            ≡ [] }
     {
         if self.duplicates().is_empty() {
             InsertReason::Memory
@@ -328,7 +330,7 @@ impl<T: Ranked, S: BuildHasher> InsertError<'_, T, S> {
     /// Returns the items of the map that conflict with the item, each once, in the order of the keys. The call searches
     /// for nothing again.
     pub fn duplicates(&self) -> UpToThree<&T>
-        ensures { map (λ item. item.now) result ≡ order T.ranks (bag self.now.map.now) self.now.item }
+        ensures { map (λ item. item.now) result ≡ conflicting T.ranks (bag self.now.map.now) self.now.item }
     {
         let map = &*self.map;
         map.items_of(&self.found)
@@ -357,7 +359,7 @@ impl<'a, T: Ranked, S: BuildHasher> InsertError<'a, T, S> {
     pub fn into_parts(self) -> (T, UpToThree<&'a T>)
         ensures item { result.0 ≡ self.entry.item }
         ensures duplicates { map (λ item. item.now) result.1
-            ≡ order T.ranks (bag self.entry.map.now) self.entry.item }
+            ≡ conflicting T.ranks (bag self.entry.map.now) self.entry.item }
     {
         let InsertError { map, item, found } = self;
         let map: &'a TriHashMap<T, S> = map;

@@ -16,6 +16,7 @@ mod map;
 mod pointers;
 mod ranks;
 mod ref_mut;
+mod rows;
 
 pub use entry::{Entry, OccupiedEntry, OccupiedEntryMut, OccupiedEntryRef, VacantEntry};
 pub use error::{
@@ -30,7 +31,8 @@ pub use ref_mut::RefMut;
 
 // Types of `iddqd_store` that the signatures of this crate name.
 pub use iddqd_store::{
-    ByMade, ByPair, Cursor, DuplicateItem, Equivalent, Holds, InsertReason, IntoIter, Iter,
-    KeyMatcher, LendsPair, Made, MakesKey, MemoryRefused, Meter, Query, ShortIntoIter, ShortIter,
-    TryReserveError, UpToThree,
+    ByMade, ByPair, Cursor, Difference, DuplicateItem, Equivalent, HasData, Holds, InsertReason,
+    IntoIter, ItemPair, Iter, KeepsKey, KeepsMade, KeepsPair, KeyMatcher, LendsPair, Made,
+    MakesKey, MemoryRefused, Meter, Query, Row3, ShortIntoIter, ShortIter, TryReserveError,
+    UpToThree,
 };

@@ -12,11 +12,16 @@ use std::hash::Hash;
 use std::marker::Model;
 use std::ops::Deref;
 
+mod data;
+
 /// An item with three keys that it makes or lends: `WithKeys<ByMade<ByMade<ByMade<T, 3>, 2>, 1>>`, or `ByPair` in place
 /// of some or all. It dereferences to the item, and contracts see the item. Its `==` is that of items, and not of keys.
 ///
 /// It takes no memory beside the item, and its own calls allocate none. A key is made or lent anew for each comparison and
 /// each hash.
+///
+/// If the item has data (`HasData`), and makes and lends the same keys whatever this data is (`KeepsMade`, `KeepsPair`), a
+/// map writes its data in place, as that of any item.
 #[derive(Clone, Drop)]
 pub struct WithKeys<K> {
     key: K,

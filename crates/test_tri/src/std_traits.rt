@@ -1,9 +1,11 @@
-//! Maps in code that requires only traits of std: cloned and compared with a struct, and made by `or_default`.
+//! Maps in code that requires only traits of std: cloned and compared with a struct, made by `or_default`, and taken out of
+//! their place.
 ghost use Rattle.std.proofs.Common.{rules};
 
 use crate::row::{Row, row_of};
 use iddqd_tri::{ClonesKeys, TriHashMap};
 use std::collections::HashMap;
+use std::mem;
 use std::test::Fail;
 
 impl ClonesKeys for Row {
@@ -46,5 +48,15 @@ fn a_map_of_maps_begins_each_empty(rt: HostRuntime) -> Result<(), Fail> {
         .insert_overwrite(row_of(2, 20, 200, 0));
     assert!(rt; shelves.entry(3)?.or_default().len() == 2);
     assert!(rt; shelves.entry(4)?.or_default().is_empty());
+    Ok(())
+}
+
+#[test]
+fn a_map_is_taken_out_of_its_place(rt: HostRuntime) -> Result<(), Fail> {
+    let mut rows = TriHashMap::new(rt.alloc());
+    let _ = rows.insert_overwrite(row_of(1, 10, 100, 0));
+    let taken = mem::try_take(&mut rows)?;
+    assert!(rt; taken.len() == 1);
+    assert!(rt; rows.is_empty() && rows.capacity() == 0);
     Ok(())
 }

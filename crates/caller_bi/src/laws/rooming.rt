@@ -1,7 +1,7 @@
 //! Tests that inserts succeed after capacity was reserved, and that reserving and shrinking keep the items.
 ghost use Rattle.std.specs.Prelude.{◌≡◌, ◌≢◌, ◌∷◌, ◌<◌, ◌≤◌, ◌+◌, ◌⊎◌, [], true, length, IsPermutation};
 ghost use Rattle.std.specs.Bool.{OnTrue, OnFalse};
-ghost use Rattle.iddqd_bi.specs.Bag.{clash};
+ghost use Rattle.iddqd_bi.specs.Bag.{conflicts_of};
 ghost use Rattle.iddqd_bi.specs.Map.{IsFullFor, bag};
 
 use iddqd_bi::{BiHashItem, BiHashMap, InsertReason, Ranked};
@@ -25,7 +25,7 @@ pub fn insert_after_reserve<T: BiHashItem + Drop, S: BuildHasher>(
 fn insert_or_lack<T: BiHashItem + Drop, S: BuildHasher>(map: &mut BiHashMap<T, S>, item: T) -> bool
     ensures memory { length (bag map.old) < map.old.capacity → result ≡ true }
     ensures taken { OnTrue result (IsPermutation (bag map.new) (item ∷ bag map.old)
-        ⊎ (clash ⟦<T as Ranked>⟧.ranks (bag map.old) item ≢ [])) }
+        ⊎ (conflicts_of ⟦<T as Ranked>⟧.ranks (bag map.old) item ≢ [])) }
     ensures lacking { OnFalse result (IsFullFor ⟦<T as Ranked>⟧.ranks map.old item) }
     ensures one_at_most { IsPermutation (bag map.new) (item ∷ bag map.old) ⊎ (map.new ≡ map.old) }
     ensures no_less_room { map.old.capacity ≤ map.new.capacity }

@@ -3,7 +3,7 @@
 //! Made by tests/widths from crates/caller_bi/src/laws/rooming.rt: change that file.
 ghost use Rattle.std.specs.Prelude.{◌≡◌, ◌≢◌, ◌∷◌, ◌<◌, ◌≤◌, ◌+◌, ◌⊎◌, [], true, length, IsPermutation};
 ghost use Rattle.std.specs.Bool.{OnTrue, OnFalse};
-ghost use Rattle.iddqd_id.specs.Bag.{clash};
+ghost use Rattle.iddqd_id.specs.Bag.{conflicts_of};
 ghost use Rattle.iddqd_id.specs.Map.{IsFullFor, bag};
 
 use iddqd_id::{IdHashItem, IdHashMap, InsertReason, Ranked};
@@ -27,7 +27,7 @@ pub fn insert_after_reserve<T: IdHashItem + Drop, S: BuildHasher>(
 fn insert_or_lack<T: IdHashItem + Drop, S: BuildHasher>(map: &mut IdHashMap<T, S>, item: T) -> bool
     ensures memory { length (bag map.old) < map.old.capacity → result ≡ true }
     ensures taken { OnTrue result (IsPermutation (bag map.new) (item ∷ bag map.old)
-        ⊎ (clash ⟦<T as Ranked>⟧.ranks (bag map.old) item ≢ [])) }
+        ⊎ (conflicts_of ⟦<T as Ranked>⟧.ranks (bag map.old) item ≢ [])) }
     ensures lacking { OnFalse result (IsFullFor ⟦<T as Ranked>⟧.ranks map.old item) }
     ensures one_at_most { IsPermutation (bag map.new) (item ∷ bag map.old) ⊎ (map.new ≡ map.old) }
     ensures no_less_room { map.old.capacity ≤ map.new.capacity }

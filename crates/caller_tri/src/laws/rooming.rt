@@ -3,7 +3,7 @@
 //! Made by tests/widths from crates/caller_bi/src/laws/rooming.rt: change that file.
 ghost use Rattle.std.specs.Prelude.{◌≡◌, ◌≢◌, ◌∷◌, ◌<◌, ◌≤◌, ◌+◌, ◌⊎◌, [], true, length, IsPermutation};
 ghost use Rattle.std.specs.Bool.{OnTrue, OnFalse};
-ghost use Rattle.iddqd_tri.specs.Bag.{clash};
+ghost use Rattle.iddqd_tri.specs.Bag.{conflicts_of};
 ghost use Rattle.iddqd_tri.specs.Map.{IsFullFor, bag};
 
 use iddqd_tri::{InsertReason, Ranked, TriHashItem, TriHashMap};
@@ -30,7 +30,7 @@ fn insert_or_lack<T: TriHashItem + Drop, S: BuildHasher>(
 ) -> bool
     ensures memory { length (bag map.old) < map.old.capacity → result ≡ true }
     ensures taken { OnTrue result (IsPermutation (bag map.new) (item ∷ bag map.old)
-        ⊎ (clash ⟦<T as Ranked>⟧.ranks (bag map.old) item ≢ [])) }
+        ⊎ (conflicts_of ⟦<T as Ranked>⟧.ranks (bag map.old) item ≢ [])) }
     ensures lacking { OnFalse result (IsFullFor ⟦<T as Ranked>⟧.ranks map.old item) }
     ensures one_at_most { IsPermutation (bag map.new) (item ∷ bag map.old) ⊎ (map.new ≡ map.old) }
     ensures no_less_room { map.old.capacity ≤ map.new.capacity }

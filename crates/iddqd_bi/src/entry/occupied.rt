@@ -3,14 +3,14 @@ ghost use Rattle.std.specs.Prelude.{◌≡◌, None, Some, not, filter, map, IfO
 ghost use Rattle.std.specs.Option.{option_copied_mut, option_to_list};
 ghost use Rattle.std.specs.Borrow.{sem};
 ghost use Rattle.std.specs.Fn.{CalledAt};
-ghost use Rattle.iddqd_store.specs.Bag.{IsOnly, differ, entry, is_unique, listing, swap};
+ghost use Rattle.iddqd_store.specs.Bag.{IsOnly, first_mismatch, entry, is_unique, listing, swap};
 ghost use Rattle.iddqd_store.specs.Bag.Calling.{TakesInTurn};
 ghost use Rattle.iddqd_store.specs.Bag.Storing.{Stores};
 ghost use Rattle.iddqd_store.specs.Map.{bag, Loses};
 ghost use Rattle.iddqd_bi.specs.Entries.{FindsSame, HasFound, HoldsFound, PutsOver, entry_tests, entry_with, lends_entry_data, lends_held};
 ghost use Rattle.iddqd_bi.specs.Keys.{has1, has2, key_tests};
 ghost use Rattle.iddqd_bi.specs.Mismatch.{mismatch_item, mismatch_rank};
-ghost use Rattle.iddqd_bi.specs.OccupiedRefs.{is_one, seen1, seen2};
+ghost use Rattle.iddqd_bi.specs.OccupiedRefs.{is_one, seen_item1, seen_item2};
 
 use super::{OccupiedEntry, OccupiedEntryMut, OccupiedEntryRef};
 use crate::error::KeyMismatch;
@@ -53,9 +53,9 @@ impl<'a, T: BiHashItem, S: BuildHasher, Q1: Query<T::K1>, Q2: Query<T::K2>> Occu
             ≡ is_unique
             (entry (entry_tests (key_tests T.BiHashItem Q1.stands_for Q2.stands_for) self.now) (bag self.now.map.now)) }
         ensures by_key1 { IsOnly (has1 T.BiHashItem Q1.stands_for self.now.query1) (bag self.now.map.now)
-            (seen1 result) }
+            (seen_item1 result) }
         ensures by_key2 { IsOnly (has2 T.BiHashItem Q2.stands_for self.now.query2) (bag self.now.map.now)
-            (seen2 result) }
+            (seen_item2 result) }
     {
         let is_unique = self.is_unique();
         let by_key1 = self.map.item_of(self.slot1);
@@ -70,9 +70,9 @@ impl<'a, T: BiHashItem, S: BuildHasher, Q1: Query<T::K1>, Q2: Query<T::K2>> Occu
             ≡ is_unique
             (entry (entry_tests (key_tests T.BiHashItem Q1.stands_for Q2.stands_for) self.entry) (bag self.entry.map.now)) }
         ensures by_key1 { IsOnly (has1 T.BiHashItem Q1.stands_for self.entry.query1) (bag self.entry.map.now)
-            (seen1 result) }
+            (seen_item1 result) }
         ensures by_key2 { IsOnly (has2 T.BiHashItem Q2.stands_for self.entry.query2) (bag self.entry.map.now)
-            (seen2 result) }
+            (seen_item2 result) }
     {
         let is_unique = self.is_unique();
         let OccupiedEntry {
@@ -135,7 +135,7 @@ impl<'a, T: BiHashItem, S: BuildHasher, Q1: Query<T::K1>, Q2: Query<T::K2>> Occu
         // The result is `Ok` only for an item with the entry's keys. The items that these keys found are returned, in
         // their order.
         ensures same_keys { OnOk result
-            (differ (entry_tests (key_tests T.BiHashItem Q1.stands_for Q2.stands_for) self.old) item ≡ None) }
+            (first_mismatch (entry_tests (key_tests T.BiHashItem Q1.stands_for Q2.stands_for) self.old) item ≡ None) }
         ensures displaced { IfOk result (λ gone. gone
             ≡ listing (entry_tests (key_tests T.BiHashItem Q1.stands_for Q2.stands_for) self.old)
             (bag self.old.map.now)) }
@@ -146,7 +146,7 @@ impl<'a, T: BiHashItem, S: BuildHasher, Q1: Query<T::K1>, Q2: Query<T::K2>> Occu
         // An item with another key is returned, and nothing changes.
         ensures handed_back { IfErr result (λ e. mismatch_item e ≡ item) }
         ensures rank { IfErr result (λ e.
-            differ (entry_tests (key_tests T.BiHashItem Q1.stands_for Q2.stands_for) self.old) item
+            first_mismatch (entry_tests (key_tests T.BiHashItem Q1.stands_for Q2.stands_for) self.old) item
             ≡ Some (mismatch_rank e)) }
         ensures unchanged { OnErr result (self.new ≡ self.old) }
     {

@@ -1,6 +1,6 @@
 //! The items that two keys found, borrowed for reading.
 ghost use Rattle.std.specs.Prelude.{◌≡◌, true, is_some, not, option_copied};
-ghost use Rattle.iddqd_bi.specs.OccupiedRefs.{is_one, seen_unique, seen1, seen2};
+ghost use Rattle.iddqd_bi.specs.OccupiedRefs.{is_one, seen_unique, seen_item1, seen_item2};
 
 /// The items that two keys found, borrowed for reading.
 #[derive(Debug, Drop)]
@@ -22,8 +22,8 @@ impl<'a, T> OccupiedEntryRef<'a, T> {
         requires some { is_unique ≡ true → is_some by_key1 ≡ true }
         requires one2 { is_unique ≡ true → option_copied by_key1 ≡ option_copied by_key2 }
         ensures is_one { is_one result ≡ is_unique }
-        ensures by_key1 { seen1 result ≡ option_copied by_key1.entry }
-        ensures by_key2 { seen2 result ≡ option_copied by_key2.entry }
+        ensures by_key1 { seen_item1 result ≡ option_copied by_key1.entry }
+        ensures by_key2 { seen_item2 result ≡ option_copied by_key2.entry }
     {
         if is_unique {
             if let Some(item) = by_key1 {
@@ -62,7 +62,7 @@ impl<'a, T> OccupiedEntryRef<'a, T> {
 
     /// Returns the item with the first key, or `None`.
     pub fn by_key1(&self) -> Option<&'a T>
-        ensures { option_copied result ≡ seen1 self.now }
+        ensures { option_copied result ≡ seen_item1 self.now }
     {
         match self {
             OccupiedEntryRef::Unique(item) => Some(*item),
@@ -72,7 +72,7 @@ impl<'a, T> OccupiedEntryRef<'a, T> {
 
     /// Returns the item with the second key, or `None`.
     pub fn by_key2(&self) -> Option<&'a T>
-        ensures { option_copied result ≡ seen2 self.now }
+        ensures { option_copied result ≡ seen_item2 self.now }
     {
         match self {
             OccupiedEntryRef::Unique(item) => Some(*item),

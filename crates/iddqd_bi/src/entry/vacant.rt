@@ -1,9 +1,9 @@
 //! Inserting an item through a vacant entry.
 ghost use Rattle.std.specs.Prelude.{◌≡◌, ◌<◌, length, None, IsOk, IfOk, IfErr, OnOk};
 ghost use Rattle.std.specs.Borrow.{sem};
-ghost use Rattle.iddqd_store.specs.Bag.{differ};
+ghost use Rattle.iddqd_store.specs.Bag.{first_mismatch};
 ghost use Rattle.iddqd_store.specs.Map.{bag};
-ghost use Rattle.iddqd_bi.specs.Entries.{GainsAndFinds, GainsAndHolds, GainsAndLends, IsSameMap, PutsIn, PutsInMade, wanted, rests_if_err};
+ghost use Rattle.iddqd_bi.specs.Entries.{GainsAndFinds, GainsAndHolds, GainsAndLends, IsSameMap, PutsIn, PutsInMade, vacant_tests, rests_if_err};
 ghost use Rattle.iddqd_bi.specs.RefMuts.{ref_lender};
 ghost use Rattle.iddqd_bi.specs.Mismatch.{HandsBack};
 
@@ -35,11 +35,11 @@ impl<'a, T: Ranked, S: BuildHasher, Q1: Query<T::K1>, Q2: Query<T::K2>> VacantEn
         ensures gains_and_lends { IfOk result (GainsAndLends self.entry item) }
         // The result is `Ok` only for an item with the entry's keys, and always for such an item if there is spare
         // capacity.
-        ensures same_keys { OnOk result (differ (wanted self.entry) item ≡ None) }
-        ensures granted { differ (wanted self.entry) item ≡ None
+        ensures same_keys { OnOk result (first_mismatch (vacant_tests self.entry) item ≡ None) }
+        ensures granted { first_mismatch (vacant_tests self.entry) item ≡ None
             → length (bag self.entry.map.now) < self.entry.map.now.capacity → IsOk result }
         // After an error the item is returned, with the reason, and the map ends as it was.
-        ensures hands_back { IfErr result (HandsBack T.ranks (wanted self.entry) self.entry.map.now item) }
+        ensures hands_back { IfErr result (HandsBack T.ranks (vacant_tests self.entry) self.entry.map.now item) }
         ensures* unchanged_at_err { sem 𝓛 (rests_if_err T.row S.row T.K1.row T.K2.row S.Hasher.row
             T.BiHashItem T.K1.Hash T.K2.Hash S.BuildHasher S.Hasher.Hasher ref_lender self.entry.map result) }
     {
@@ -56,11 +56,11 @@ impl<'a, T: Ranked, S: BuildHasher, Q1: Query<T::K1>, Q2: Query<T::K2>> VacantEn
         ensures gains_and_holds { IfOk result (GainsAndHolds self.entry item) }
         // The result is `Ok` only for an item with the entry's keys, and always for such an item if there is spare
         // capacity.
-        ensures same_keys { OnOk result (differ (wanted self.entry) item ≡ None) }
-        ensures granted { differ (wanted self.entry) item ≡ None
+        ensures same_keys { OnOk result (first_mismatch (vacant_tests self.entry) item ≡ None) }
+        ensures granted { first_mismatch (vacant_tests self.entry) item ≡ None
             → length (bag self.entry.map.now) < self.entry.map.now.capacity → IsOk result }
         // After an error the item is returned, with the reason, and the map ends as it was.
-        ensures hands_back { IfErr result (HandsBack T.ranks (wanted self.entry) self.entry.map.now item) }
+        ensures hands_back { IfErr result (HandsBack T.ranks (vacant_tests self.entry) self.entry.map.now item) }
         ensures* unchanged_at_err { sem 𝓛 (rests_if_err T.row S.row T.K1.row T.K2.row S.Hasher.row
             T.BiHashItem T.K1.Hash T.K2.Hash S.BuildHasher S.Hasher.Hasher
             (λ m. m.map.ghost_name) self.entry.map result) }
@@ -93,13 +93,13 @@ impl<'a, T: BiHashItem, S: BuildHasher, Q1: Query<T::K1>, Q2: Query<T::K2>> Vaca
         ensures gains_and_finds { IfOk result (GainsAndFinds self.entry item) }
         // The result is `Ok` only for an item with the entry's keys, and always for such an item if there is spare
         // capacity.
-        ensures same_keys { OnOk result (differ (wanted self.entry) item ≡ None) }
-        ensures granted { differ (wanted self.entry) item ≡ None
+        ensures same_keys { OnOk result (first_mismatch (vacant_tests self.entry) item ≡ None) }
+        ensures granted { first_mismatch (vacant_tests self.entry) item ≡ None
             → length (bag self.entry.map.now) < self.entry.map.now.capacity → IsOk result }
         // The error borrows the map as it was, and has the item, with the reason.
         ensures is_same_map { IfErr result (λ e. IsSameMap self.entry.map e.map) }
         ensures hands_back { IfErr result (λ e.
-            HandsBack ⟦<T as Ranked>⟧.ranks (wanted self.entry) self.entry.map.now item e.error) }
+            HandsBack ⟦<T as Ranked>⟧.ranks (vacant_tests self.entry) self.entry.map.now item e.error) }
     {
         let VacantEntry {
             map,

@@ -1,7 +1,7 @@
 //! Inserting an item that conflicts with no other.
 ghost use Rattle.std.specs.Prelude.{◌≡◌, ◌≢◌, ◌<◌, ◌⊎◌, [], length, IsOk, OnOk, OnErr, IfErr};
 ghost use Rattle.std.specs.Borrow.{sem};
-ghost use Rattle.iddqd_store.specs.Bag.{clash};
+ghost use Rattle.iddqd_store.specs.Bag.{conflicts_of};
 ghost use Rattle.iddqd_store.specs.Map.{bag, Gains, IsFullFor};
 
 use super::BiHashMap;
@@ -34,12 +34,12 @@ impl<T: Ranked, S: BuildHasher> BiHashMap<T, S> {
     #[inline(always)]
     pub fn insert_unique(&mut self, item: T) -> Result<(), InsertError<'_, T, S>>
         // The result is `Ok` only if nothing conflicts, and then always if there is spare capacity.
-        ensures free { OnOk result (clash T.ranks (bag self.old) item ≡ []) }
-        ensures granted { clash T.ranks (bag self.old) item ≡ []
+        ensures free { OnOk result (conflicts_of T.ranks (bag self.old) item ≡ []) }
+        ensures granted { conflicts_of T.ranks (bag self.old) item ≡ []
             → length (bag self.old) < self.old.capacity → IsOk result }
         // The error has the item and borrows the map as it was. It occurs only for a conflict or in a full map.
         ensures handed_back { IfErr result (λ e. HandsBackAndHolds self.entry item e) }
-        ensures reason { OnErr result ((clash T.ranks (bag self.old) item ≢ []) ⊎ IsFullFor T.ranks self.old item) }
+        ensures reason { OnErr result ((conflicts_of T.ranks (bag self.old) item ≢ []) ⊎ IsFullFor T.ranks self.old item) }
         // Once the error is gone, the map has the item after `Ok`, and otherwise it is as it was.
         ensures* ends { sem 𝓛 (ends_as T.row S.row T.K1.row T.K2.row S.Hasher.row
             T.BiHashItem T.K1.Hash T.K2.Hash S.BuildHasher S.Hasher.Hasher
@@ -78,8 +78,8 @@ impl<T: Ranked, S: BuildHasher> BiHashMap<T, S> {
     pub fn try_insert(&mut self, item: T) -> Result<(), Rejected<T>>
         // The result is `Ok` only if nothing conflicts, and then always if there is spare capacity.
         ensures gains { OnOk result (Gains self.old item self.new) }
-        ensures free { OnOk result (clash T.ranks (bag self.old) item ≡ []) }
-        ensures granted { clash T.ranks (bag self.old) item ≡ []
+        ensures free { OnOk result (conflicts_of T.ranks (bag self.old) item ≡ []) }
+        ensures granted { conflicts_of T.ranks (bag self.old) item ≡ []
             → length (bag self.old) < self.old.capacity → IsOk result }
         // The error has the item and says which keys are taken. In a full map it may say that none is. The map is as it
         // was.

@@ -1,6 +1,6 @@
 //! Inserting an item in place of those that conflict with it.
 ghost use Rattle.std.specs.Prelude.{◌≡◌, ◌<◌, ◌+◌, length, map, IsOk, IfOk, IfErr, OnOk, OnErr};
-ghost use Rattle.iddqd_store.specs.Bag.{order};
+ghost use Rattle.iddqd_store.specs.Bag.{conflicting};
 ghost use Rattle.iddqd_store.specs.Map.{bag, IsFullFor, Overwrites};
 ghost use Rattle.iddqd_store.specs.Rank.All.{PlacingCosts, hashes_of};
 
@@ -20,7 +20,7 @@ impl<T: Ranked, S: BuildHasher> BiHashMap<T, S> {
     #[inline(always)]
     pub fn insert_overwrite(&mut self, item: T) -> Result<UpToTwo<T>, MemoryRefused<T>>
         // The conflicting items are returned, in the order of the item's keys, and the item is in their place.
-        ensures displaced { IfOk result (λ gone. gone ≡ order T.ranks (bag self.old) item) }
+        ensures displaced { IfOk result (λ gone. gone ≡ conflicting T.ranks (bag self.old) item) }
         ensures overwrites { OnOk result (Overwrites T.ranks self.old item self.new) }
         // With spare capacity the call never fails.
         ensures granted { length (bag self.old) < self.old.capacity → IsOk result }
@@ -42,7 +42,7 @@ impl<T: Ranked, S: BuildHasher> BiHashMap<T, S> {
         costs: &mut Costs,
     ) -> Result<UpToTwo<T>, MemoryRefused<T>>
         // The conflicting items are returned, in the order of the item's keys, and the item is in their place.
-        ensures displaced { IfOk result (λ gone. gone ≡ order T.ranks (bag self.old) item) }
+        ensures displaced { IfOk result (λ gone. gone ≡ conflicting T.ranks (bag self.old) item) }
         ensures overwrites { OnOk result (Overwrites T.ranks self.old item self.new) }
         // With spare capacity the call never fails.
         ensures granted { length (bag self.old) < self.old.capacity → IsOk result }
@@ -52,7 +52,7 @@ impl<T: Ranked, S: BuildHasher> BiHashMap<T, S> {
         ensures reason { OnErr result (IsFullFor T.ranks self.old item) }
         ensures costs { PlacingCosts (⟦<T as Hashed<S>>⟧.hashes self.old.builder) (bag self.old) self.old.capacity
             (hashes_of (⟦<T as Hashed<S>>⟧.hashes self.old.builder) item)
-            (map (λ _. length (order T.ranks (bag self.old) item) + 1) T.ranks)
+            (map (λ _. length (conflicting T.ranks (bag self.old) item) + 1) T.ranks)
             costs.old costs.new }
     {
         // What an insert needs, or an overwrite of one item, is inlined, so a caller's loop branches on the outcome where

@@ -4,7 +4,7 @@ ghost use Rattle.iddqd_store.specs.Bag.{IsOnly};
 ghost use Rattle.iddqd_store.specs.Map.{bag, hash_of};
 ghost use Rattle.iddqd_store.specs.Rank.All.{hashes_of};
 ghost use Rattle.iddqd_bi.specs.Keys.{has1, has2};
-ghost use Rattle.iddqd_bi.specs.Rekeyed.{PutsInPlace, RekeyingCosts, TellsWhyNot, left_out};
+ghost use Rattle.iddqd_bi.specs.Rekeyed.{PutsInPlace, RekeyingCosts, TellsWhyNot, refused_item};
 
 use super::BiHashMap;
 use crate::error::NotReplaced;
@@ -27,7 +27,7 @@ impl<T: Ranked, S: BuildHasher> BiHashMap<T, S> {
         ensures found { IfOk result (λ x. IsOnly (has1 T.BiHashItem Q.stands_for query) (bag self.old) (Some x)) }
         ensures puts { IfOk result (λ x. PutsInPlace self.old x item self.new) }
         // The error has the new item, and says which of the two cases it is. The map is as it was.
-        ensures handed_back { IfErr result (λ e. left_out e ≡ item) }
+        ensures handed_back { IfErr result (λ e. refused_item e ≡ item) }
         ensures unchanged { OnErr result (self.new ≡ self.old) }
         ensures reason { IfErr result (λ e. TellsWhyNot T.ranks
             (has1 T.BiHashItem Q.stands_for query) (bag self.old) item e) }
@@ -48,7 +48,7 @@ impl<T: Ranked, S: BuildHasher> BiHashMap<T, S> {
         ensures found { IfOk result (λ x. IsOnly (has1 T.BiHashItem Q.stands_for query) (bag self.old) (Some x)) }
         ensures puts { IfOk result (λ x. PutsInPlace self.old x item self.new) }
         // The error has the new item, and says which of the two cases it is. The map is as it was.
-        ensures handed_back { IfErr result (λ e. left_out e ≡ item) }
+        ensures handed_back { IfErr result (λ e. refused_item e ≡ item) }
         ensures unchanged { OnErr result (self.new ≡ self.old) }
         ensures reason { IfErr result (λ e. TellsWhyNot T.ranks
             (has1 T.BiHashItem Q.stands_for query) (bag self.old) item e) }
@@ -81,7 +81,7 @@ impl<T: Ranked, S: BuildHasher> BiHashMap<T, S> {
         ensures found { IfOk result (λ x. IsOnly (has2 T.BiHashItem Q.stands_for query) (bag self.old) (Some x)) }
         ensures puts { IfOk result (λ x. PutsInPlace self.old x item self.new) }
         // The error has the new item, and says which of the two cases it is. The map is as it was.
-        ensures handed_back { IfErr result (λ e. left_out e ≡ item) }
+        ensures handed_back { IfErr result (λ e. refused_item e ≡ item) }
         ensures unchanged { OnErr result (self.new ≡ self.old) }
         ensures reason { IfErr result (λ e. TellsWhyNot T.ranks
             (has2 T.BiHashItem Q.stands_for query) (bag self.old) item e) }
@@ -102,7 +102,7 @@ impl<T: Ranked, S: BuildHasher> BiHashMap<T, S> {
         ensures found { IfOk result (λ x. IsOnly (has2 T.BiHashItem Q.stands_for query) (bag self.old) (Some x)) }
         ensures puts { IfOk result (λ x. PutsInPlace self.old x item self.new) }
         // The error has the new item, and says which of the two cases it is. The map is as it was.
-        ensures handed_back { IfErr result (λ e. left_out e ≡ item) }
+        ensures handed_back { IfErr result (λ e. refused_item e ≡ item) }
         ensures unchanged { OnErr result (self.new ≡ self.old) }
         ensures reason { IfErr result (λ e. TellsWhyNot T.ranks
             (has2 T.BiHashItem Q.stands_for query) (bag self.old) item e) }

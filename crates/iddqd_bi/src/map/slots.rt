@@ -4,10 +4,10 @@
 //! (`batch`). Calls on all slots at once and removals by one key use the slots and tables themselves.
 ghost use Rattle.std.specs.Prelude.{◌≡◌, ℕ, ◌<◌, ◌≤◌, ◌+◌, [], ◌∷◌, length, map, All, OnOk, OnErr, IfOk, IfErr, Some, None, IfSome, nat_eq, slice_set, is_some, is_ok, true, false, if◌then◌else◌};
 ghost use Rattle.std.specs.List.{IsDistinct, list_any};
-ghost use Rattle.iddqd_store.specs.Bag.{IsSound, clash, differ, listing};
+ghost use Rattle.iddqd_store.specs.Bag.{IsSound, conflicts_of, first_mismatch, listing};
 ghost use Rattle.iddqd_store.specs.Rank.Index.{HasHash};
-ghost use Rattle.iddqd_store.specs.Map.{bag, hash_of, Gains, Loses, PutsAt, IsFullFor, IsBlockedAt};
-ghost use Rattle.iddqd_store.specs.Rank.All.{ArePlacesOf, AreSearched, AreHashed, AreVacantFor, HaveHashes, HaveRoom, IsBlockedBy, PlacingCosts, hashes_of, slots_found};
+ghost use Rattle.iddqd_store.specs.Map.{bag, hash_of, Gains, Loses, PutsAt, IsFullFor, ConflictsAt};
+ghost use Rattle.iddqd_store.specs.Rank.All.{ArePlacesOf, AreSearched, AreHashed, AreVacantFor, HaveHashes, HaveRoom, FindsConflicts, PlacingCosts, hashes_of, slots_found};
 ghost use Rattle.iddqd_store.specs.Rank.{agree, walks_within};
 ghost use Rattle.iddqd_store.specs.Searched.{IfFound, IfVacant, OnFound, OnVacant};
 ghost use Rattle.iddqd_store.specs.Slots.Found.{AreFound, each_once, items_at};
@@ -131,10 +131,10 @@ impl<T: BiHashItem, S: BuildHasher> BiHashMap<T, S> {
         item: &T,
         costs: &mut Costs,
     ) -> Searched<(FoundByHash, FoundByHash), (Vacancy, Vacancy)>
-        ensures free { OnVacant result (clash ⟦<T as Ranked>⟧.ranks (bag self.now) item.now ≡ []) }
+        ensures free { OnVacant result (conflicts_of ⟦<T as Ranked>⟧.ranks (bag self.now) item.now ≡ []) }
         ensures spots { IfVacant (by_rank result) (ArePlacesOf
             (⟦<T as Hashed<S>>⟧.hashes self.now.builder) (bag self.now) item.now) }
-        ensures blocked { OnFound result (IsBlockedAt ⟦<T as Ranked>⟧.ranks self.now item.now
+        ensures conflict { OnFound result (ConflictsAt ⟦<T as Ranked>⟧.ranks self.now item.now
             (each_once (slots_found (by_rank result)))) }
         ensures hashes { IfFound (by_rank result) (HaveHashes
             (hashes_of (⟦<T as Hashed<S>>⟧.hashes self.now.builder) item.now)) }
@@ -157,7 +157,7 @@ impl<T: BiHashItem, S: BuildHasher> BiHashMap<T, S> {
         meter: &mut Meter,
     ) -> ItemIndex
         requires room { length (bag self.old) < self.old.capacity }
-        requires free { clash ⟦<T as Ranked>⟧.ranks (bag self.old) item ≡ [] }
+        requires free { conflicts_of ⟦<T as Ranked>⟧.ranks (bag self.old) item ≡ [] }
         requires spots { ArePlacesOf
             (⟦<T as Hashed<S>>⟧.hashes self.old.builder) (bag self.old) item (at.0 ∷ at.1 ∷ []) }
         ensures was_free { get self.old.slots result ≡ None }
@@ -192,7 +192,7 @@ impl<T: BiHashItem, S: BuildHasher> BiHashMap<T, S> {
         ensures value { IfOk result (λ slot. get self.new.slots slot ≡ Some item) }
         ensures sound { OnOk result (IsSound ⟦<T as Ranked>⟧.ranks (bag self.new)) }
         ensures same_keys { OnOk result
-            (differ (key_tests T.BiHashItem Q1.stands_for Q2.stands_for query1 query2) item ≡ None) }
+            (first_mismatch (key_tests T.BiHashItem Q1.stands_for Q2.stands_for query1 query2) item ≡ None) }
         ensures hands_back { IfErr result (HandsBack ⟦<T as Ranked>⟧.ranks
             (key_tests T.BiHashItem Q1.stands_for Q2.stands_for query1 query2) self.old item) }
         ensures unchanged { OnErr result (self.new ≡ self.old) }
@@ -273,11 +273,11 @@ impl<T: BiHashItem, S: BuildHasher> BiHashMap<T, S> {
     #[inline(always)]
     pub(crate) fn insert_or_refuse(&mut self, item: T, costs: &mut Costs) -> Result<(), Refusal<T>>
         ensures gains { OnOk result (Gains self.old item self.new) }
-        ensures free { OnOk result (clash ⟦<T as Ranked>⟧.ranks (bag self.old) item ≡ []) }
+        ensures free { OnOk result (conflicts_of ⟦<T as Ranked>⟧.ranks (bag self.old) item ≡ []) }
         ensures handed_back { IfErr result (λ e. refusal_item e ≡ item) }
         ensures unchanged { OnErr result (self.new ≡ self.old) }
         ensures reason { IfErr result (λ e. MatchRefusal e
-            (IsBlockedBy ⟦<T as Ranked>⟧.ranks (⟦<T as Hashed<S>>⟧.hashes self.old.builder) self.old item)
+            (FindsConflicts ⟦<T as Ranked>⟧.ranks (⟦<T as Hashed<S>>⟧.hashes self.old.builder) self.old item)
             (IsFullFor ⟦<T as Ranked>⟧.ranks self.old item)) }
         ensures costs { PlacingCosts (⟦<T as Hashed<S>>⟧.hashes self.old.builder) (bag self.old) self.old.capacity
             (hashes_of (⟦<T as Hashed<S>>⟧.hashes self.old.builder) item)

@@ -1,7 +1,7 @@
 //! The calls of a guard.
 ghost use Rattle.std.specs.Prelude.{◌≡◌, Some, IfSome, IfOk, IfErr, OnErr, IsPermutation};
 ghost use Rattle.std.specs.Borrow.{sem};
-ghost use Rattle.iddqd_store.specs.Bag.{differ, like, swap};
+ghost use Rattle.iddqd_store.specs.Bag.{first_mismatch, tests_of, swap};
 ghost use Rattle.iddqd_store.specs.Map.{bag};
 ghost use Rattle.iddqd_bi.specs.Mismatch.{mismatch_item, mismatch_rank};
 ghost use Rattle.iddqd_bi.specs.RefMuts.{Replaces, ref_map, ref_item, ref_with, lends_map_data, lends_ref_data};
@@ -72,7 +72,7 @@ impl<T: Ranked, S: BuildHasher> RefMut<'_, T, S> {
         // An item with another key is returned, and nothing changes.
         ensures handed_back { IfErr result (λ e. mismatch_item e ≡ item) }
         ensures rank { IfErr result (λ e. IfSome (ref_item self.old) (λ x.
-            differ (like T.ranks x) item ≡ Some (mismatch_rank e))) }
+            first_mismatch (tests_of T.ranks x) item ≡ Some (mismatch_rank e))) }
         ensures unchanged { OnErr result (self.new ≡ self.old) }
     {
         if let Some(rank) = differ(&item, self.key1(), self.key2()) {

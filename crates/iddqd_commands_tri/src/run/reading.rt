@@ -2,7 +2,7 @@
 //!
 //! Made by tests/widths from crates/iddqd_commands_bi/src/run/reading.rt: change that file.
 ghost use Rattle.std.specs.Prelude.{length};
-ghost use Rattle.iddqd_store.specs.Bag.{order};
+ghost use Rattle.iddqd_store.specs.Bag.{conflicting};
 ghost use Rattle.iddqd_store.specs.Map.{bag};
 ghost use Rattle.iddqd_store.specs.Map.State.{state_of};
 ghost use Rattle.iddqd_commands.specs.Reply.{done, present, duplicate, items, size};
@@ -123,7 +123,8 @@ pub(super) fn tell_duplicate<T: TriHashItemMut, S: BuildHasher, K: TriSink<T>>(
     item: T,
     sink: &mut K,
 ) -> Result<(), K::Fault>
-    ensures took { K.took sink.old (duplicate item (order ⟦<T as Ranked>⟧.ranks (bag map.now) item)) result sink.new }
+    ensures took { K.took sink.old (duplicate item (conflicting ⟦<T as Ranked>⟧.ranks
+        (bag map.now) item)) result sink.new }
     ensures fits { Fits (state_of map.now) }
 {
     let duplicates = map.conflicts_with(&item);

@@ -3,9 +3,9 @@
 //! Made by tests/widths from crates/iddqd_bi/src/entry/vacant.rt: change that file.
 ghost use Rattle.std.specs.Prelude.{◌≡◌, ◌<◌, length, None, IsOk, IfOk, IfErr, OnOk};
 ghost use Rattle.std.specs.Borrow.{sem};
-ghost use Rattle.iddqd_store.specs.Bag.{differ};
+ghost use Rattle.iddqd_store.specs.Bag.{first_mismatch};
 ghost use Rattle.iddqd_store.specs.Map.{bag};
-ghost use Rattle.iddqd_id.specs.Entries.{GainsAndFinds, GainsAndLends, IsSameMap, PutsIn, PutsInMade, wanted, rests_if_err};
+ghost use Rattle.iddqd_id.specs.Entries.{GainsAndFinds, GainsAndLends, IsSameMap, PutsIn, PutsInMade, vacant_tests, rests_if_err};
 ghost use Rattle.iddqd_id.specs.RefMuts.{ref_lender};
 ghost use Rattle.iddqd_id.specs.Mismatch.{HandsBack};
 
@@ -31,11 +31,11 @@ impl<'a, T: Ranked, S: BuildHasher, Q: Query<T::Key>> VacantEntry<'a, T, S, Q> {
         ensures gains_and_lends { IfOk result (GainsAndLends self.entry item) }
         // The result is `Ok` only for an item with the entry's key, and always for such an item if there is spare
         // capacity.
-        ensures same_keys { OnOk result (differ (wanted self.entry) item ≡ None) }
-        ensures granted { differ (wanted self.entry) item ≡ None
+        ensures same_keys { OnOk result (first_mismatch (vacant_tests self.entry) item ≡ None) }
+        ensures granted { first_mismatch (vacant_tests self.entry) item ≡ None
             → length (bag self.entry.map.now) < self.entry.map.now.capacity → IsOk result }
         // After an error the item is returned, with the reason, and the map ends as it was.
-        ensures hands_back { IfErr result (HandsBack T.ranks (wanted self.entry) self.entry.map.now item) }
+        ensures hands_back { IfErr result (HandsBack T.ranks (vacant_tests self.entry) self.entry.map.now item) }
         ensures* unchanged_at_err { sem 𝓛 (rests_if_err T.row S.row T.Key.row S.Hasher.row
             T.IdHashItem T.Key.Hash S.BuildHasher S.Hasher.Hasher ref_lender self.entry.map result) }
     {
@@ -54,13 +54,13 @@ impl<'a, T: IdHashItem, S: BuildHasher, Q: Query<T::Key>> VacantEntry<'a, T, S, 
         ensures gains_and_finds { IfOk result (GainsAndFinds self.entry item) }
         // The result is `Ok` only for an item with the entry's key, and always for such an item if there is spare
         // capacity.
-        ensures same_keys { OnOk result (differ (wanted self.entry) item ≡ None) }
-        ensures granted { differ (wanted self.entry) item ≡ None
+        ensures same_keys { OnOk result (first_mismatch (vacant_tests self.entry) item ≡ None) }
+        ensures granted { first_mismatch (vacant_tests self.entry) item ≡ None
             → length (bag self.entry.map.now) < self.entry.map.now.capacity → IsOk result }
         // The error borrows the map as it was, and has the item, with the reason.
         ensures is_same_map { IfErr result (λ e. IsSameMap self.entry.map e.map) }
         ensures hands_back { IfErr result (λ e.
-            HandsBack ⟦<T as Ranked>⟧.ranks (wanted self.entry) self.entry.map.now item e.error) }
+            HandsBack ⟦<T as Ranked>⟧.ranks (vacant_tests self.entry) self.entry.map.now item e.error) }
     {
         let VacantEntry { map, query, at } = self;
         match map.insert_free(item, query, at) {

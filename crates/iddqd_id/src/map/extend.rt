@@ -3,7 +3,7 @@
 //! Made by tests/widths from crates/iddqd_bi/src/map/extend.rt: change that file.
 ghost use Rattle.std.specs.Prelude.{◌≡◌, ◌≤◌, [], ◌∷◌, length, IsPermutation, IfOk, IfErr, OnOk, OnErr, IsOk};
 ghost use Rattle.std.specs.Iterator.{IsFiniteIterable};
-ghost use Rattle.iddqd_store.specs.Bag.{IsSound, clash, overs};
+ghost use Rattle.iddqd_store.specs.Bag.{IsSound, conflicts_of, with_items};
 ghost use Rattle.iddqd_store.specs.Bag.Building.{GivesAll, GivesThen, FitsOn, AddsTo, RefusesFor, HasPlaceFor, MatchFromIterError};
 ghost use Rattle.iddqd_store.specs.Map.{bag, GrowsUnless, IsFullFor};
 ghost use Rattle.iddqd_store.specs.Map.State.{ExtendsTo, state_of, empty_state};
@@ -127,7 +127,7 @@ impl<T: Ranked + Drop, S: BuildHasher + Default + Drop> IdHashMap<T, S> {
         ensures all { IfOk result (λ map. GivesAll I.into_iter_gives I.IntoIter.next_gives iter (λ xs.
             ExtendsTo T.ranks empty_state xs (state_of map))) }
         ensures refused { IfErr result (λ e. GivesThen I.into_iter_gives I.IntoIter.next_gives iter e.value (λ xs.
-            clash T.ranks (overs T.ranks [] xs) e.value ≡ [])) }
+            conflicts_of T.ranks (with_items T.ranks [] xs) e.value ≡ [])) }
         ensures builder { IfOk result (λ map. S.is_default map.builder) }
     {
         let mut map = IdHashMap::default(alloc);

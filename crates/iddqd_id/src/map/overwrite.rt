@@ -3,7 +3,7 @@
 //! Made by tests/widths from crates/iddqd_bi/src/map/overwrite.rt: change that file.
 ghost use Rattle.std.specs.Prelude.{◌≡◌, ◌<◌, length, map, IsOk, IfOk, IfErr, OnOk, OnErr};
 ghost use Rattle.std.specs.Option.{option_to_list};
-ghost use Rattle.iddqd_store.specs.Bag.{order};
+ghost use Rattle.iddqd_store.specs.Bag.{conflicting};
 ghost use Rattle.iddqd_store.specs.Map.{bag, IsFullFor, Overwrites};
 ghost use Rattle.iddqd_store.specs.Rank.All.{PlacingCosts, hashes_of};
 
@@ -22,7 +22,7 @@ impl<T: Ranked, S: BuildHasher> IdHashMap<T, S> {
     #[inline(always)]
     pub fn insert_overwrite(&mut self, item: T) -> Result<Option<T>, MemoryRefused<T>>
         // The conflicting item is returned, and the item is in its place.
-        ensures displaced { IfOk result (λ gone. option_to_list gone ≡ order T.ranks (bag self.old) item) }
+        ensures displaced { IfOk result (λ gone. option_to_list gone ≡ conflicting T.ranks (bag self.old) item) }
         ensures overwrites { OnOk result (Overwrites T.ranks self.old item self.new) }
         // With spare capacity the call never fails.
         ensures granted { length (bag self.old) < self.old.capacity → IsOk result }
@@ -43,7 +43,7 @@ impl<T: Ranked, S: BuildHasher> IdHashMap<T, S> {
         costs: &mut Costs,
     ) -> Result<Option<T>, MemoryRefused<T>>
         // The conflicting item is returned, and the item is in its place.
-        ensures displaced { IfOk result (λ gone. option_to_list gone ≡ order T.ranks (bag self.old) item) }
+        ensures displaced { IfOk result (λ gone. option_to_list gone ≡ conflicting T.ranks (bag self.old) item) }
         ensures overwrites { OnOk result (Overwrites T.ranks self.old item self.new) }
         // With spare capacity the call never fails.
         ensures granted { length (bag self.old) < self.old.capacity → IsOk result }

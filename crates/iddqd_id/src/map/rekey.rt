@@ -6,7 +6,7 @@ ghost use Rattle.iddqd_store.specs.Bag.{IsOnly};
 ghost use Rattle.iddqd_store.specs.Map.{bag, hash_of};
 ghost use Rattle.iddqd_store.specs.Rank.All.{hashes_of};
 ghost use Rattle.iddqd_id.specs.Keys.{has};
-ghost use Rattle.iddqd_id.specs.Rekeyed.{PutsInPlace, RekeyingCosts, TellsWhyNot, left_out};
+ghost use Rattle.iddqd_id.specs.Rekeyed.{PutsInPlace, RekeyingCosts, TellsWhyNot, refused_item};
 
 use super::IdHashMap;
 use crate::error::NotReplaced;
@@ -29,7 +29,7 @@ impl<T: Ranked, S: BuildHasher> IdHashMap<T, S> {
         ensures found { IfOk result (λ x. IsOnly (has T.IdHashItem Q.stands_for query) (bag self.old) (Some x)) }
         ensures puts { IfOk result (λ x. PutsInPlace self.old x item self.new) }
         // The error has the new item, and says which of the two cases it is. The map is as it was.
-        ensures handed_back { IfErr result (λ e. left_out e ≡ item) }
+        ensures handed_back { IfErr result (λ e. refused_item e ≡ item) }
         ensures unchanged { OnErr result (self.new ≡ self.old) }
         ensures reason { IfErr result (λ e. TellsWhyNot T.ranks
             (has T.IdHashItem Q.stands_for query) (bag self.old) item e) }
@@ -50,7 +50,7 @@ impl<T: Ranked, S: BuildHasher> IdHashMap<T, S> {
         ensures found { IfOk result (λ x. IsOnly (has T.IdHashItem Q.stands_for query) (bag self.old) (Some x)) }
         ensures puts { IfOk result (λ x. PutsInPlace self.old x item self.new) }
         // The error has the new item, and says which of the two cases it is. The map is as it was.
-        ensures handed_back { IfErr result (λ e. left_out e ≡ item) }
+        ensures handed_back { IfErr result (λ e. refused_item e ≡ item) }
         ensures unchanged { OnErr result (self.new ≡ self.old) }
         ensures reason { IfErr result (λ e. TellsWhyNot T.ranks
             (has T.IdHashItem Q.stands_for query) (bag self.old) item e) }

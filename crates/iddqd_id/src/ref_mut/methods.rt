@@ -3,7 +3,7 @@
 //! Made by tests/widths from crates/iddqd_bi/src/ref_mut/methods.rt: change that file.
 ghost use Rattle.std.specs.Prelude.{◌≡◌, Some, IfSome, IfOk, IfErr, OnErr, IsPermutation};
 ghost use Rattle.std.specs.Borrow.{sem};
-ghost use Rattle.iddqd_store.specs.Bag.{differ, like, swap};
+ghost use Rattle.iddqd_store.specs.Bag.{first_mismatch, tests_of, swap};
 ghost use Rattle.iddqd_store.specs.Map.{bag};
 ghost use Rattle.iddqd_id.specs.RefMuts.{Replaces, ref_map, ref_item, ref_with, lends_map_data, lends_ref_data};
 
@@ -72,7 +72,7 @@ impl<T: Ranked, S: BuildHasher> RefMut<'_, T, S> {
         ensures replaces { IfOk result (λ x. Replaces T.ranks self.old item x self.new) }
         // An item with another key is returned, and nothing changes.
         ensures handed_back { IfErr result (λ e. e.item ≡ item) }
-        ensures rank { OnErr result (IfSome (ref_item self.old) (λ x. differ (like T.ranks x) item ≡ Some 0)) }
+        ensures rank { OnErr result (IfSome (ref_item self.old) (λ x. first_mismatch (tests_of T.ranks x) item ≡ Some 0)) }
         ensures unchanged { OnErr result (self.new ≡ self.old) }
     {
         if !self.key().stands_for(item.key()) {

@@ -1,4 +1,4 @@
-//! Runs in which one allocation fails. `tests/failing_allocations` runs them once for each allocation.
+//! Runs in which one allocation fails. `tests/memory/refuse_each` runs them once for each allocation.
 //!
 //! A test `allows_..` passes whichever allocation fails. It prints `met: the refusal` if it saw the failure, so it
 //! never prints this if no allocation fails. It also prints what each run met, because each outcome has to come at some

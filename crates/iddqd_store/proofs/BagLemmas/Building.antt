@@ -4,11 +4,11 @@ use Rattle.std.proofs.Common.{refl, sym, ap, subst, ◌∙◌, arith}
 use Rattle.std.proofs.lemmas.List.Folds.{fold_stays}
 use Rattle.std.proofs.lemmas.List.Sorted.{IsPermutation-refl, IsPermutation-middle, IsPermutation-sym, IsPermutation-cons, IsPermutation-trans, length_permutation}
 use Rattle.std.proofs.lemmas.List.{nil_from_length}
-use Rattle.iddqd_store.specs.Bag.{Ranks, AreLawful, IsSound, clash, order, over, add, add_next, adds}
+use Rattle.iddqd_store.specs.Bag.{Ranks, AreLawful, IsSound, conflicts_of, conflicting, with_item, add, add_next, adds}
 use Rattle.iddqd_store.specs.Bag.Building.{GivesThen, AddsTo, RefusesFor, HasPlaceFor}
 use Rattle.iddqd_store.proofs.Plain.{same_ok, ok_or_err}
-use Rattle.iddqd_store.proofs.BagLemmas.Sound.{length-over, order-IsPermutation, IsSound-IsPermutation}
-use Rattle.iddqd_store.proofs.BagLemmas.Steps.{IsSound-nil, IsSound-add, clash-IsPermutation, clash-empty, order-empty, add-apart, add-refused, adds_push}
+use Rattle.iddqd_store.proofs.BagLemmas.Sound.{length-with_item, conflicting-IsPermutation, IsSound-IsPermutation}
+use Rattle.iddqd_store.proofs.BagLemmas.Steps.{IsSound-nil, IsSound-add, conflicts_of-IsPermutation, conflicts_of-empty, conflicting-empty, add-apart, add-refused, adds_push}
 
 pub GivesThen-weaker : {U S T : Type 0} (becomes : U → S → Type 0) (steps : S → Option T → S → Type 0) (iter : U) (x : T) (P Q : List T → Type 0)
     → ((xs : List T) → P xs → Q xs) → GivesThen becomes steps iter x P → GivesThen becomes steps iter x Q
@@ -16,16 +16,16 @@ GivesThen-weaker becomes steps iter x P Q f h = (h.0, h.1, h.2, h.3, h.4, f h.1 
 
 module _ {T : Type 0} where
   -- at most one item more
-  pub length-overwritten : (ranks : Ranks T) (bag new : List T) (x : T) → IsPermutation new (over ranks bag x) → length new ≤ suc (length bag)
-  length-overwritten ranks bag new x p = omega (arith, length_permutation new (over ranks bag x) p, length-over ranks bag x)
+  pub length-overwritten : (ranks : Ranks T) (bag new : List T) (x : T) → IsPermutation new (with_item ranks bag x) → length new ≤ suc (length bag)
+  length-overwritten ranks bag new x p = omega (arith, length_permutation new (with_item ranks bag x) p, length-with_item ranks bag x)
 
   -- an item that conflicts with no member conflicts with none in another order
-  pub clash-none : (ranks : Ranks T) (held made : List T) (x : T) → IsPermutation held made → clash ranks held x ≡ [] → clash ranks made x ≡ []
-  clash-none ranks held made x p free =
-      nil_from_length (clash ranks made x) (length_permutation _ _ (clash-IsPermutation ranks held made x p) ∙ ap length free)
+  pub conflicts_of-none : (ranks : Ranks T) (held made : List T) (x : T) → IsPermutation held made → conflicts_of ranks held x ≡ [] → conflicts_of ranks made x ≡ []
+  conflicts_of-none ranks held made x p free =
+      nil_from_length (conflicts_of ranks made x) (length_permutation _ _ (conflicts_of-IsPermutation ranks held made x p) ∙ ap length free)
 
-  add-free : (ranks : Ranks T) (made : List T) (x : T) → clash ranks made x ≡ [] → add ranks made x ≡ Ok (x ∷ made)
-  add-free ranks made x free = add-apart ranks made x (order-empty ranks made x free)
+  add-free : (ranks : Ranks T) (made : List T) (x : T) → conflicts_of ranks made x ≡ [] → add ranks made x ≡ Ok (x ∷ made)
+  add-free ranks made x free = add-apart ranks made x (conflicting-empty ranks made x free)
 
   adds_nothing : (ranks : Ranks T) (bag made : List T) → adds ranks bag [] ≡ Ok made → bag ≡ made
   adds_nothing ranks bag made h = cc
@@ -44,12 +44,12 @@ module _ {T : Type 0} where
       by_first on (Err refusal) put rest = absurd (stays_refused ranks xs made refusal rest)
 
   added_is : (ranks : Ranks T) (bag next : List T) (x : T) → add ranks bag x ≡ Ok next → next ≡ x ∷ bag
-  added_is ranks bag next x put = by_order (order ranks bag x) refl
+  added_is ranks bag next x put = by_order (conflicting ranks bag x) refl
     where
-      by_order : (l : List T) → order ranks bag x ≡ l → next ≡ x ∷ bag
+      by_order : (l : List T) → conflicting ranks bag x ≡ l → next ≡ x ∷ bag
       by_order [] none = same_ok (add ranks bag x) next (x ∷ bag) put (add-apart ranks bag x none)
       by_order (y ∷ ys) some =
-          absurd (ok_or_err (add ranks bag x) next (x, order ranks bag x) put (add-refused ranks bag x (λ none. absurd (cc (some, none)))))
+          absurd (ok_or_err (add ranks bag x) next (x, conflicting ranks bag x) put (add-refused ranks bag x (λ none. absurd (cc (some, none)))))
 
   -- the bag has the list that was added and the items that it had
   pub adds-IsPermutation : (ranks : Ranks T) (bag xs made : List T) → adds ranks bag xs ≡ Ok made → IsPermutation made (xs ++ bag)
@@ -74,22 +74,22 @@ module _ {T : Type 0} where
   AddsTo-nil ranks bag = (bag, refl, IsPermutation-refl bag)
 
   -- one more item was added
-  pub AddsTo-push : (ranks : Ranks T) (old held new xs : List T) (x : T) → AddsTo ranks old held xs → clash ranks held x ≡ [] → IsPermutation new (x ∷ held) → AddsTo ranks old new (xs ++ x ∷ [])
+  pub AddsTo-push : (ranks : Ranks T) (old held new xs : List T) (x : T) → AddsTo ranks old held xs → conflicts_of ranks held x ≡ [] → IsPermutation new (x ∷ held) → AddsTo ranks old new (xs ++ x ∷ [])
   AddsTo-push ranks old held new xs x added free put =
       let made = added.0 in (
         x ∷ made,
-        adds_push ranks old xs x ∙ ap (λ r. add_next ranks r x) added.1 ∙ add-free ranks made x (clash-none ranks held made x added.2 free),
+        adds_push ranks old xs x ∙ ap (λ r. add_next ranks r x) added.1 ∙ add-free ranks made x (conflicts_of-none ranks held made x added.2 free),
         IsPermutation-trans _ _ _ put (IsPermutation-cons x _ _ added.2),
       )
 
   module _ (ranks : Ranks T) (held xs : List T) (x : T) (added : AddsTo ranks [] held xs) where
-    pub HasPlaceFor-free : clash ranks held x ≡ [] → HasPlaceFor ranks x xs
-    HasPlaceFor-free free = (added.0, added.1, add-free ranks added.0 x (clash-none ranks held added.0 x added.2 free))
+    pub HasPlaceFor-free : conflicts_of ranks held x ≡ [] → HasPlaceFor ranks x xs
+    HasPlaceFor-free free = (added.0, added.1, add-free ranks added.0 x (conflicts_of-none ranks held added.0 x added.2 free))
 
     -- one item was rejected, and the items listed for it are those that the definition lists
-    pub RefusesFor-found : AreLawful ranks → clash ranks held x ≢ [] → RefusesFor ranks x (order ranks held x) xs
+    pub RefusesFor-found : AreLawful ranks → conflicts_of ranks held x ≢ [] → RefusesFor ranks x (conflicting ranks held x) xs
     RefusesFor-found laws some =
         let made = added.0 in
         let sound = IsSound-IsPermutation ranks laws made held (IsPermutation-sym _ _ added.2) (IsSound-adds ranks [] xs made (IsSound-nil ranks) added.1) in
-        let same = order-IsPermutation ranks laws held made x sound added.2 in
-        (made, added.1, add-refused ranks made x (λ none. some (clash-empty ranks held x (same ∙ none))) ∙ ap (λ l. Err (x, l)) (sym same))
+        let same = conflicting-IsPermutation ranks laws held made x sound added.2 in
+        (made, added.1, add-refused ranks made x (λ none. some (conflicts_of-empty ranks held x (same ∙ none))) ∙ ap (λ l. Err (x, l)) (sym same))

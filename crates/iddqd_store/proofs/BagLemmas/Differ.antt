@@ -5,7 +5,7 @@ use Rattle.std.proofs.Common.{refl, sym, ◌∙◌, inl, inr, arith, nat_lt}
 use Rattle.std.proofs.lemmas.Bool.{cases_lt, not-false}
 use Rattle.std.proofs.lemmas.Bool.Decides.{nat_tests}
 use Rattle.std.proofs.lemmas.Option.{none-some}
-use Rattle.iddqd_store.specs.Bag.{Ranks, differ, every_of, like, agrees}
+use Rattle.iddqd_store.specs.Bag.{Ranks, first_mismatch, every_of, tests_of, agrees}
 
 module _ {X : Type 0} where
   -- if there is no place, the first element fails, and there is no place further on
@@ -33,16 +33,16 @@ module _ {X : Type 0} where
           ]
 
 module _ {T : Type 0} where
-  pub differ-none : (tests : List (T → Bool)) (x : T) → differ tests x ≡ None → AllByRecursion (λ test. test x ≡ true) tests
-  differ-none [] x none = tt
-  differ-none (test ∷ tests) x none =
+  pub first_mismatch-none : (tests : List (T → Bool)) (x : T) → first_mismatch tests x ≡ None → AllByRecursion (λ test. test x ≡ true) tests
+  first_mismatch-none [] x none = tt
+  first_mismatch-none (test ∷ tests) x none =
       let first = no_place (λ t. not (t x)) test tests none in
-      (not-false (test x) first.0, differ-none tests x first.1)
+      (not-false (test x) first.0, first_mismatch-none tests x first.1)
 
   pub every_passed : (tests : List (T → Bool)) (x : T) → AllByRecursion (λ test. test x ≡ true) tests → every_of tests x ≡ true
   every_passed [] x passes = refl
   every_passed (test ∷ tests) x passes = rw (passes.0, every_passed tests x passes.1) refl
 
   -- an item that has the keys of x at each rank agrees with it
-  pub agrees-differ : (ranks : Ranks T) (x y : T) → differ (like ranks x) y ≡ None → agrees ranks x y ≡ true
-  agrees-differ ranks x y none = every_passed (like ranks x) y (differ-none (like ranks x) y none)
+  pub agrees-first_mismatch : (ranks : Ranks T) (x y : T) → first_mismatch (tests_of ranks x) y ≡ None → agrees ranks x y ≡ true
+  agrees-first_mismatch ranks x y none = every_passed (tests_of ranks x) y (first_mismatch-none (tests_of ranks x) y none)

@@ -11,11 +11,11 @@ use Rattle.std.proofs.lemmas.List.{nil_from_length}
 use Rattle.std.proofs.lemmas.Bool.{or_parts}
 use Rattle.iddqd_store.specs.Slots.{get, IsLive, Updates}
 use Rattle.iddqd_store.specs.Slots.Found.{items_at, contains, with_found}
-use Rattle.iddqd_store.specs.Bag.{Ranks, some_of, like, conflicts, clash, order, over}
+use Rattle.iddqd_store.specs.Bag.{Ranks, some_of, tests_of, do_conflict, conflicts_of, conflicting, with_item}
 use Rattle.iddqd_store.proofs.Plain.{number_turned, number_apart}
 use Rattle.iddqd_store.proofs.BagLemmas.Exchanges.{split, IsPermutation-filter}
 use Rattle.iddqd_store.proofs.BagLemmas.Steps.{none_passes}
-use Rattle.iddqd_store.proofs.BagLemmas.Sound.{IsDistinct-nil, each_weaker, each_passes, none_pass, all_pass, IsPermutation-order}
+use Rattle.iddqd_store.proofs.BagLemmas.Sound.{IsDistinct-nil, each_weaker, each_passes, none_pass, all_pass, IsPermutation-conflicting}
 
 -- the slots found are distinct
 pub IsDistinct-push : (numbers : List ℕ) (slot : ℕ) → IsDistinct nat_eq numbers → contains numbers slot ≡ false → IsDistinct nat_eq (numbers ++ slot ∷ [])
@@ -79,28 +79,28 @@ module _ {T : Type 0} where
       (IsPermutation-trans _ _ _ before (IsPermutation-append taken taken _ _ (IsPermutation-refl taken) out))
 
   -- a filter of the bag is that of the conflicting items and that of the rest
-  filter-taken : (p : T → Bool) (ranks : Ranks T) (bag rest : List T) (x : T) → IsPermutation bag (order ranks bag x ++ rest)
-      → IsPermutation (filter p bag) (filter p (clash ranks bag x) ++ filter p rest)
+  filter-taken : (p : T → Bool) (ranks : Ranks T) (bag rest : List T) (x : T) → IsPermutation bag (conflicting ranks bag x ++ rest)
+      → IsPermutation (filter p bag) (filter p (conflicts_of ranks bag x) ++ filter p rest)
   filter-taken p ranks bag rest x out =
       IsPermutation-trans _ _ _
-      (subst (IsPermutation (filter p bag)) (filter-append p (order ranks bag x) rest) (IsPermutation-filter p bag (order ranks bag x ++ rest) out))
-      (IsPermutation-append _ _ _ _ (IsPermutation-filter p (order ranks bag x) (clash ranks bag x) (IsPermutation-order ranks bag x)) (IsPermutation-refl (filter p rest)))
+      (subst (IsPermutation (filter p bag)) (filter-append p (conflicting ranks bag x) rest) (IsPermutation-filter p bag (conflicting ranks bag x ++ rest) out))
+      (IsPermutation-append _ _ _ _ (IsPermutation-filter p (conflicting ranks bag x) (conflicts_of ranks bag x) (IsPermutation-conflicting ranks bag x)) (IsPermutation-refl (filter p rest)))
 
   -- once the items that conflict with x are removed, nothing conflicts with it
-  pub clash-taken : (ranks : Ranks T) (bag rest : List T) (x : T) → IsPermutation bag (order ranks bag x ++ rest) → clash ranks rest x ≡ []
-  clash-taken ranks bag rest x out =
-      let p : T → Bool = conflicts ranks x in
-      let again : filter p (clash ranks bag x) ≡ clash ranks bag x = all_pass p (clash ranks bag x) (each_passes p bag) in
-      let long : length (clash ranks bag x ++ filter p rest) ≡ length (clash ranks bag x) =
+  pub conflicts_of-taken : (ranks : Ranks T) (bag rest : List T) (x : T) → IsPermutation bag (conflicting ranks bag x ++ rest) → conflicts_of ranks rest x ≡ []
+  conflicts_of-taken ranks bag rest x out =
+      let p : T → Bool = do_conflict ranks x in
+      let again : filter p (conflicts_of ranks bag x) ≡ conflicts_of ranks bag x = all_pass p (conflicts_of ranks bag x) (each_passes p bag) in
+      let long : length (conflicts_of ranks bag x ++ filter p rest) ≡ length (conflicts_of ranks bag x) =
       length_permutation _ _ (subst (λ l. IsPermutation (filter p bag) (l ++ filter p rest)) again (filter-taken p ranks bag rest x out)) in
-      nil_from_length (clash ranks rest x) (omega (arith, long, length-append (clash ranks bag x) (filter p rest)))
+      nil_from_length (conflicts_of ranks rest x) (omega (arith, long, length-append (conflicts_of ranks bag x) (filter p rest)))
 
   -- what is left, with x, is the bag overwritten by x
-  pub over-taken : (ranks : Ranks T) (bag rest new : List T) (x : T) → IsPermutation bag (order ranks bag x ++ rest) → IsPermutation new (x ∷ rest) → IsPermutation new (over ranks bag x)
-  over-taken ranks bag rest new x out put =
-      let p : T → Bool = λ y. not (some_of (like ranks x) y) in
-      let gone : filter p (clash ranks bag x) ≡ [] = none_pass p (clash ranks bag x) (each_weaker _ _ (λ y e. ap not e) (clash ranks bag x) (each_passes (conflicts ranks x) bag)) in
-      let kept : filter p rest ≡ rest = all_pass p rest (each_weaker _ _ (λ y e. ap not e) rest (none_passes (conflicts ranks x) rest (clash-taken ranks bag rest x out))) in
+  pub with_item-taken : (ranks : Ranks T) (bag rest new : List T) (x : T) → IsPermutation bag (conflicting ranks bag x ++ rest) → IsPermutation new (x ∷ rest) → IsPermutation new (with_item ranks bag x)
+  with_item-taken ranks bag rest new x out put =
+      let p : T → Bool = λ y. not (some_of (tests_of ranks x) y) in
+      let gone : filter p (conflicts_of ranks bag x) ≡ [] = none_pass p (conflicts_of ranks bag x) (each_weaker _ _ (λ y e. ap not e) (conflicts_of ranks bag x) (each_passes (do_conflict ranks x) bag)) in
+      let kept : filter p rest ≡ rest = all_pass p rest (each_weaker _ _ (λ y e. ap not e) rest (none_passes (do_conflict ranks x) rest (conflicts_of-taken ranks bag rest x out))) in
       let left : IsPermutation (filter p bag) rest =
       subst (IsPermutation (filter p bag)) (ap (λ l. l ++ filter p rest) gone ∙ kept) (filter-taken p ranks bag rest x out) in
       IsPermutation-trans _ _ _ put (IsPermutation-cons x _ _ (IsPermutation-sym _ _ left))

@@ -4,7 +4,7 @@ use Rattle.iddqd_store.proofs.BagLemmas.Exchanges.{IsPermutation-flip}
 use Rattle.std.proofs.Common.{refl, arith, get_or}
 use Rattle.std.proofs.lemmas.Bool.{false≢true}
 use Rattle.iddqd_store.proofs.BagLemmas.Same.{IsSameBag-pair, HasPair}
-use Rattle.iddqd_store.specs.Bag.{Ranks, order, over, overs, add, adds, listing, without, all_of, differ, entry, vacant, unique, non_unique, agrees, swap, crowd, IsSameBag}
+use Rattle.iddqd_store.specs.Bag.{Ranks, conflicting, with_item, with_items, add, adds, listing, remainder, all_of, first_mismatch, entry, vacant, unique, non_unique, agrees, swap, crowd, IsSameBag}
 
 abbrev pub Item : Type 0
 Item = ℕ × ℕ × ℕ
@@ -21,22 +21,22 @@ keyed a b = (λ x. x.0 == a) ∷ (λ x. x.1 == b) ∷ []
 conflict_at_first_key : add pairs m2 (1, 99, 0) ≡ Err ((1, 99, 0), (1, 10, 100) ∷ [])
 conflict_at_first_key = refl
 
-conflict_at_second_key : order pairs m2 (99, 10, 0) ≡ (1, 10, 100) ∷ []
+conflict_at_second_key : conflicting pairs m2 (99, 10, 0) ≡ (1, 10, 100) ∷ []
 conflict_at_second_key = refl
 
-two_conflicts_in_key_order : order pairs m2 (2, 10, 5) ≡ (2, 20, 200) ∷ (1, 10, 100) ∷ []
+two_conflicts_in_key_order : conflicting pairs m2 (2, 10, 5) ≡ (2, 20, 200) ∷ (1, 10, 100) ∷ []
 two_conflicts_in_key_order = refl
 
 equal_numbers_at_other_ranks : add pairs ((1, 10, 100) ∷ []) (10, 1, 5) ≡ Ok ((10, 1, 5) ∷ (1, 10, 100) ∷ [])
 equal_numbers_at_other_ranks = refl
 
-over_two : over pairs m2 (1, 20, 300) ≡ (1, 20, 300) ∷ []
+over_two : with_item pairs m2 (1, 20, 300) ≡ (1, 20, 300) ∷ []
 over_two = refl
 
-both_displaced : order pairs m2 (1, 20, 300) ≡ (1, 10, 100) ∷ (2, 20, 200) ∷ []
+both_displaced : conflicting pairs m2 (1, 20, 300) ≡ (1, 10, 100) ∷ (2, 20, 200) ∷ []
 both_displaced = refl
 
-displaced_once : order pairs ((1, 10, 100) ∷ []) (1, 10, 101) ≡ (1, 10, 100) ∷ []
+displaced_once : conflicting pairs ((1, 10, 100) ∷ []) (1, 10, 101) ≡ (1, 10, 100) ∷ []
 displaced_once = refl
 
 keys_of_two_items : all_of (keyed 1 20) m2 ≡ []
@@ -51,13 +51,13 @@ entry_listing_of_two = refl
 entry_listing_of_one : listing (keyed 1 99) m2 ≡ (1, 10, 100) ∷ []
 entry_listing_of_one = refl
 
-entry_removed : without (keyed 1 99) m2 ≡ (2, 20, 200) ∷ []
+entry_removed : remainder (keyed 1 99) m2 ≡ (2, 20, 200) ∷ []
 entry_removed = refl
 
-second_key_differs : differ (keyed 1 99) (1, 98, 0) ≡ Some 1
+second_key_differs : first_mismatch (keyed 1 99) (1, 98, 0) ≡ Some 1
 second_key_differs = refl
 
-first_key_differs : differ (keyed 5 50) (6, 50, 0) ≡ Some 0
+first_key_differs : first_mismatch (keyed 5 50) (6, 50, 0) ≡ Some 0
 first_key_differs = refl
 
 abbrev triples : Ranks (ℕ × ℕ × ℕ × ℕ)
@@ -66,19 +66,19 @@ triples = (λ x y. x.0 == y.0) ∷ (λ x y. x.1 == y.1) ∷ (λ x y. x.2 == y.2)
 abbrev m3 : List (ℕ × ℕ × ℕ × ℕ)
 m3 = (1, 10, 100, 7) ∷ (2, 20, 200, 8) ∷ (3, 30, 300, 9) ∷ []
 
-three_displaced : order triples m3 (1, 20, 300, 5) ≡ m3
+three_displaced : conflicting triples m3 (1, 20, 300, 5) ≡ m3
 three_displaced = refl
 
-over_three : over triples m3 (1, 20, 300, 5) ≡ (1, 20, 300, 5) ∷ []
+over_three : with_item triples m3 (1, 20, 300, 5) ≡ (1, 20, 300, 5) ∷ []
 over_three = refl
 
-displaced_of_three : order triples m3 (1, 10, 300, 5) ≡ (1, 10, 100, 7) ∷ (3, 30, 300, 9) ∷ []
+displaced_of_three : conflicting triples m3 (1, 10, 300, 5) ≡ (1, 10, 100, 7) ∷ (3, 30, 300, 9) ∷ []
 displaced_of_three = refl
 
 refused_in_a_list : adds pairs [] ((1, 10, 0) ∷ (2, 20, 0) ∷ (2, 10, 5) ∷ []) ≡ Err ((2, 10, 5), (2, 20, 0) ∷ (1, 10, 0) ∷ [])
 refused_in_a_list = refl
 
-overs_of_two : overs pairs m2 ((3, 30, 300) ∷ (3, 20, 0) ∷ []) ≡ (3, 20, 0) ∷ (1, 10, 100) ∷ []
+overs_of_two : with_items pairs m2 ((3, 30, 300) ∷ (3, 20, 0) ∷ []) ≡ (3, 20, 0) ∷ (1, 10, 100) ∷ []
 overs_of_two = refl
 
 -- the tests of the keys of an entry
@@ -98,10 +98,10 @@ entry_of_none : entry (keyed 5 50) [] ≡ vacant
 entry_of_none = refl
 
 -- a member leaves by its second key, and is then not found by its first
-taken_by_second_key : without ((λ x. x.1 == 10) ∷ []) m2 ≡ (2, 20, 200) ∷ []
+taken_by_second_key : remainder ((λ x. x.1 == 10) ∷ []) m2 ≡ (2, 20, 200) ∷ []
 taken_by_second_key = refl
 
-not_found_by_first_key : filter (λ x. x.0 == 1) (without ((λ x. x.1 == 10) ∷ []) m2) ≡ []
+not_found_by_first_key : filter (λ x. x.0 == 1) (remainder ((λ x. x.1 == 10) ∷ []) m2) ≡ []
 not_found_by_first_key = refl
 
 -- another value under the same keys

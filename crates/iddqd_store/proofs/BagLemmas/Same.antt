@@ -8,9 +8,9 @@ use Rattle.std.proofs.lemmas.Map.Keys.{IsDistinct-head, IsDistinct-tail, IsDisti
 use Rattle.std.proofs.lemmas.List.Sorted.{IsPermutation-refl, IsPermutation-sym, IsPermutation-cons, IsPermutation-trans, length_permutation, Contains-permutation}
 use Rattle.std.proofs.lemmas.List.Elements.{length_all_zip}
 use Rattle.iddqd_store.proofs.BagLemmas.Exchanges.{AllZip-follow, AllZip-flip, IsPermutation-flip}
-use Rattle.iddqd_store.proofs.BagLemmas.Sound.{IsSound-IsPermutation, conflicts-symm}
-use Rattle.iddqd_store.proofs.BagLemmas.Steps.{agrees-conflicts}
-use Rattle.iddqd_store.specs.Bag.{Ranks, conflicts, agrees, same_item, IsSound, AreLawful, IsSameBag, IsCopy}
+use Rattle.iddqd_store.proofs.BagLemmas.Sound.{IsSound-IsPermutation, do_conflict-symm}
+use Rattle.iddqd_store.proofs.BagLemmas.Steps.{agrees-do_conflict}
+use Rattle.iddqd_store.specs.Bag.{Ranks, do_conflict, agrees, same_item, IsSound, AreLawful, IsSameBag, IsCopy}
 use Rattle.iddqd_store.proofs.RankLemmas.Index.{Contains-cons}
 
 module _ {A : Type 0} where
@@ -114,13 +114,13 @@ module _ {T : Type 0} where
       let rest = taken_out ys x (k, omega arith, is) in
       (y ∷ rest.0, IsPermutation-trans _ _ _ (IsPermutation-cons y _ _ rest.1) (IsPermutation-flip y x rest.0))
 
-  agrees-conflict : (ranks : Ranks T) → 0 < length ranks → (x y : T) → agrees ranks x y ≡ true → conflicts ranks x y ≡ true
+  agrees-conflict : (ranks : Ranks T) → 0 < length ranks → (x y : T) → agrees ranks x y ≡ true → do_conflict ranks x y ≡ true
   agrees-conflict [] some x y h = absurd (omega arith)
   agrees-conflict (agree ∷ ranks) some x y h = rw (and_parts (agree x y) (agrees ranks x y) h).0 refl
 
   -- the partners of x and of the rest of a sound bag differ
   others_pair : (ranks : Ranks T) (eq : T → T → Bool) → AreLawful ranks → 0 < length ranks → (x y : T) (xs other rest : List T)
-      → IsPermutation other (y ∷ rest) → agrees ranks x y ≡ true → AllByRecursion (λ z. conflicts ranks x z ≡ false) xs
+      → IsPermutation other (y ∷ rest) → agrees ranks x y ≡ true → AllByRecursion (λ z. do_conflict ranks x z ≡ false) xs
       → AllByRecursion (HasPair ranks eq other) xs → AllByRecursion (HasPair ranks eq rest) xs
   others_pair ranks eq laws some x y [] other rest p same apart pairs = tt
   others_pair ranks eq laws some x y (z ∷ xs) other rest p same apart pairs =
@@ -141,22 +141,22 @@ module _ {T : Type 0} where
       let y = pairs.0.0 in
       let out = taken_out other y pairs.0.1 in
       let same = (and_parts (agrees ranks x y) (eq x y) pairs.0.2).0 in
-      let left = others_pair ranks eq laws some x y xs other out.0 out.1 same (IsDistinct-head (conflicts ranks) x xs sound) pairs.1 in
+      let left = others_pair ranks eq laws some x y xs other out.0 out.1 same (IsDistinct-head (do_conflict ranks) x xs sound) pairs.1 in
       let fewer : length xs ≡ length out.0 = omega (arith, length_permutation _ _ out.1) in
-      let rest = IsSameBag-from_pairs ranks eq laws some xs out.0 (IsDistinct-tail (conflicts ranks) x xs sound) fewer left in
+      let rest = IsSameBag-from_pairs ranks eq laws some xs out.0 (IsDistinct-tail (do_conflict ranks) x xs sound) fewer left in
       (y ∷ rest.0, IsPermutation-trans _ _ _ out.1 (IsPermutation-cons y _ _ rest.1), (pairs.0.2, rest.2))
 
   -- if a clone has the keys of its source, a copy of a sound bag is sound
   copies-apart : (is_clone : T → T → Type 0) (ranks : Ranks T) → AreLawful ranks → (x c : T) (xs cs : List T) → agrees ranks x c ≡ true
       → ((y d : T) → Contains (x ∷ xs) y → is_clone y d → agrees ranks y d ≡ true) → AllZip is_clone xs cs
-      → AllByRecursion (λ y. conflicts ranks x y ≡ false) xs → AllByRecursion (λ d. conflicts ranks c d ≡ false) cs
+      → AllByRecursion (λ y. do_conflict ranks x y ≡ false) xs → AllByRecursion (λ d. do_conflict ranks c d ≡ false) cs
   copies-apart is_clone ranks laws x c [] [] same keys all apart = tt
   copies-apart is_clone ranks laws x c [] (d ∷ cs) same keys all apart = absurd all
   copies-apart is_clone ranks laws x c (y ∷ xs) [] same keys all apart = absurd all
   copies-apart is_clone ranks laws x c (y ∷ xs) (d ∷ cs) same keys all apart =
       let there = keys y d (1, omega arith, refl) all.0 in
-      let first = sym (agrees-conflicts ranks laws x c d same) in
-      let second = conflicts-symm ranks laws x d ∙ sym (agrees-conflicts ranks laws y d x there) ∙ conflicts-symm ranks laws y x in
+      let first = sym (agrees-do_conflict ranks laws x c d same) in
+      let second = do_conflict-symm ranks laws x d ∙ sym (agrees-do_conflict ranks laws y d x there) ∙ do_conflict-symm ranks laws y x in
       (first ∙ second ∙ apart.0, copies-apart is_clone ranks laws x c xs cs same (λ z e found. keys z e (skip y x z xs found)) all.1 apart.1)
     where
       skip : (y x z : T) (xs : List T) → Contains (x ∷ xs) z → Contains (x ∷ y ∷ xs) z
@@ -169,9 +169,9 @@ module _ {T : Type 0} where
   copies-sound is_clone ranks laws [] (c ∷ cs) keys all sound = absurd all
   copies-sound is_clone ranks laws (x ∷ xs) [] keys all sound = absurd all
   copies-sound is_clone ranks laws (x ∷ xs) (c ∷ cs) keys all sound =
-      IsDistinct-cons (conflicts ranks) c cs
-      (copies-apart is_clone ranks laws x c xs cs (keys x c (0, omega arith, refl) all.0) keys all.1 (IsDistinct-head (conflicts ranks) x xs sound))
-      (copies-sound is_clone ranks laws xs cs (λ y d found. keys y d (Contains-cons x y xs found)) all.1 (IsDistinct-tail (conflicts ranks) x xs sound))
+      IsDistinct-cons (do_conflict ranks) c cs
+      (copies-apart is_clone ranks laws x c xs cs (keys x c (0, omega arith, refl) all.0) keys all.1 (IsDistinct-head (do_conflict ranks) x xs sound))
+      (copies-sound is_clone ranks laws xs cs (λ y d found. keys y d (Contains-cons x y xs found)) all.1 (IsDistinct-tail (do_conflict ranks) x xs sound))
 
   pub IsSound-copy : (is_clone : T → T → Type 0) (ranks : Ranks T) → AreLawful ranks → (bag copy : List T)
       → ((x c : T) → Contains bag x → is_clone x c → agrees ranks x c ≡ true) → IsCopy is_clone bag copy → IsSound ranks bag → IsSound ranks copy

@@ -7,7 +7,7 @@ use Rattle.std.proofs.lemmas.Bool.{false≢true, or_parts, not-true}
 use Rattle.std.proofs.lemmas.List.Sorted.{IsPermutation-refl, IsPermutation-cons, IsPermutation-trans, IsPermutation-middle, IsPermutation-append, length_permutation, Contains-permutation}
 use Rattle.std.proofs.lemmas.List.Filters.{length-filter_both}
 use Rattle.iddqd_store.proofs.BagLemmas.Exchanges.{split, IsPermutation-filter}
-use Rattle.iddqd_store.specs.Bag.{Ranks, some_of, listing, without, like, conflicts, IsSound, clash, order, over, NamesOne, AreLawful, AreNames}
+use Rattle.iddqd_store.specs.Bag.{Ranks, some_of, listing, remainder, tests_of, do_conflict, IsSound, conflicts_of, conflicting, with_item, NamesOne, AreLawful, AreNames}
 
 module _ {T : Type 0} where
   pub each_weaker : (P Q : T → Type 0) → ((x : T) → P x → Q x) → (xs : List T) → AllByRecursion P xs → AllByRecursion Q xs
@@ -61,12 +61,12 @@ module _ {T : Type 0} where
 
   -- a sound bag is distinct at each rank
   pub IsSound-rank : (agree : T → T → Bool) (ranks : Ranks T) (xs : List T) → IsSound (agree ∷ ranks) xs → IsDistinct agree xs × IsSound ranks xs
-  IsSound-rank agree ranks [] h = (IsDistinct-nil agree, IsDistinct-nil (conflicts ranks))
+  IsSound-rank agree ranks [] h = (IsDistinct-nil agree, IsDistinct-nil (do_conflict ranks))
   IsSound-rank agree ranks (x ∷ xs) h =
-      let head = IsDistinct-head (conflicts (agree ∷ ranks)) x xs h in
-      let rest = IsSound-rank agree ranks xs (IsDistinct-tail (conflicts (agree ∷ ranks)) x xs h) in (
-        IsDistinct-cons agree x xs (each_weaker _ _ (λ y e. (or_parts (agree x y) (conflicts ranks x y) e).0) xs head) rest.0,
-        IsDistinct-cons (conflicts ranks) x xs (each_weaker _ _ (λ y e. (or_parts (agree x y) (conflicts ranks x y) e).1) xs head) rest.1,
+      let head = IsDistinct-head (do_conflict (agree ∷ ranks)) x xs h in
+      let rest = IsSound-rank agree ranks xs (IsDistinct-tail (do_conflict (agree ∷ ranks)) x xs h) in (
+        IsDistinct-cons agree x xs (each_weaker _ _ (λ y e. (or_parts (agree x y) (do_conflict ranks x y) e).0) xs head) rest.0,
+        IsDistinct-cons (do_conflict ranks) x xs (each_weaker _ _ (λ y e. (or_parts (agree x y) (do_conflict ranks x y) e).1) xs head) rest.1,
       )
 
   -- a listing of named members has at most one for each rank
@@ -77,13 +77,13 @@ module _ {T : Type 0} where
       let apart = IsSound-rank agree ranks xs h in
       let one = length-named agree test names.0 xs apart.0 in
       let others : List T = filter (λ x. not (test x)) xs in
-      let rest = length-listing ranks tests names.1 others (IsDistinct-filter (conflicts ranks) (λ x. not (test x)) xs apart.1) in
+      let rest = length-listing ranks tests names.1 others (IsDistinct-filter (do_conflict ranks) (λ x. not (test x)) xs apart.1) in
       omega (arith, length-append (filter test xs) (listing tests others))
 
   -- the tests of an item's own keys are names
-  pub AreNames-like : (ranks : Ranks T) (x : T) → AreLawful ranks → AreNames ranks (like ranks x)
-  AreNames-like [] x h = refl
-  AreNames-like (agree ∷ ranks) x h = (λ y z p q. sym (h.0.congr x y z p) ∙ q, AreNames-like ranks x h.1)
+  pub AreNames-tests_of : (ranks : Ranks T) (x : T) → AreLawful ranks → AreNames ranks (tests_of ranks x)
+  AreNames-tests_of [] x h = refl
+  AreNames-tests_of (agree ∷ ranks) x h = (λ y z p q. sym (h.0.congr x y z p) ∙ q, AreNames-tests_of ranks x h.1)
 
   pub filter_twice : (p q : T → Bool) (xs : List T) → filter q (filter p xs) ≡ filter (λ x. p x && q x) xs
   filter_twice p q [] = refl
@@ -119,26 +119,26 @@ module _ {T : Type 0} where
       (IsPermutation-append (filter test xs) (filter test xs) _ _ (IsPermutation-refl _) (IsPermutation-listing tests (filter (λ x. not (test x)) xs)))
       (IsPermutation-either test (some_of tests) xs)
 
-  pub IsPermutation-order : (ranks : Ranks T) (bag : List T) (x : T) → IsPermutation (order ranks bag x) (clash ranks bag x)
-  IsPermutation-order ranks bag x = IsPermutation-listing (like ranks x) bag
+  pub IsPermutation-conflicting : (ranks : Ranks T) (bag : List T) (x : T) → IsPermutation (conflicting ranks bag x) (conflicts_of ranks bag x)
+  IsPermutation-conflicting ranks bag x = IsPermutation-listing (tests_of ranks x) bag
 
   -- a bag overwritten by x is sound, and has x in the place of what conflicts
-  pub IsSound-over : (ranks : Ranks T) (bag : List T) (x : T) → IsSound ranks bag → IsSound ranks (over ranks bag x)
-  IsSound-over ranks bag x h =
-      let rest : List T = without (like ranks x) bag in
-      IsDistinct-cons (conflicts ranks) x rest
-      (each_weaker _ _ (λ y e. not-true (conflicts ranks x y) e) rest (each_passes (λ y. not (some_of (like ranks x) y)) bag))
-      (IsDistinct-filter (conflicts ranks) (λ y. not (some_of (like ranks x) y)) bag h)
+  pub IsSound-with_item : (ranks : Ranks T) (bag : List T) (x : T) → IsSound ranks bag → IsSound ranks (with_item ranks bag x)
+  IsSound-with_item ranks bag x h =
+      let rest : List T = remainder (tests_of ranks x) bag in
+      IsDistinct-cons (do_conflict ranks) x rest
+      (each_weaker _ _ (λ y e. not-true (do_conflict ranks x y) e) rest (each_passes (λ y. not (some_of (tests_of ranks x) y)) bag))
+      (IsDistinct-filter (do_conflict ranks) (λ y. not (some_of (tests_of ranks x) y)) bag h)
 
-  pub length-over : (ranks : Ranks T) (bag : List T) (x : T) → length (over ranks bag x) + length (clash ranks bag x) ≡ suc (length bag)
-  length-over ranks bag x = omega (arith, length-filter_both (conflicts ranks x) (λ y. not (some_of (like ranks x) y)) (λ _. refl) bag)
+  pub length-with_item : (ranks : Ranks T) (bag : List T) (x : T) → length (with_item ranks bag x) + length (conflicts_of ranks bag x) ≡ suc (length bag)
+  length-with_item ranks bag x = omega (arith, length-filter_both (do_conflict ranks x) (λ y. not (some_of (tests_of ranks x) y)) (λ _. refl) bag)
 
-  pub conflicts-symm : (ranks : Ranks T) → AreLawful ranks → (x y : T) → conflicts ranks x y ≡ conflicts ranks y x
-  conflicts-symm [] h x y = refl
-  conflicts-symm (agree ∷ ranks) h x y = rw (h.0.symm x y, conflicts-symm ranks h.1 x y)
+  pub do_conflict-symm : (ranks : Ranks T) → AreLawful ranks → (x y : T) → do_conflict ranks x y ≡ do_conflict ranks y x
+  do_conflict-symm [] h x y = refl
+  do_conflict-symm (agree ∷ ranks) h x y = rw (h.0.symm x y, do_conflict-symm ranks h.1 x y)
 
   pub IsSound-IsPermutation : (ranks : Ranks T) → AreLawful ranks → (xs ys : List T) → IsPermutation xs ys → IsSound ranks xs → IsSound ranks ys
-  IsSound-IsPermutation ranks laws = IsDistinct-IsPermutation (conflicts ranks) (conflicts-symm ranks laws)
+  IsSound-IsPermutation ranks laws = IsDistinct-IsPermutation (do_conflict ranks) (do_conflict-symm ranks laws)
 
 module _ {T : Type 0} where
   -- a list of one element has one order
@@ -168,14 +168,14 @@ module _ {T : Type 0} where
       let others : List T → List T = filter (λ x. not (test x)) in
       let first = named-IsPermutation agree test names.0 xs ys apart.0 p in
       let rest = listing-IsPermutation ranks tests names.1 (others xs) (others ys)
-      (IsDistinct-filter (conflicts ranks) (λ x. not (test x)) xs apart.1) (IsPermutation-filter (λ x. not (test x)) xs ys p) in
+      (IsDistinct-filter (do_conflict ranks) (λ x. not (test x)) xs apart.1) (IsPermutation-filter (λ x. not (test x)) xs ys p) in
       ap (λ l. l ++ listing tests (others xs)) first ∙ ap (λ l. filter test ys ++ l) rest
 
-  pub order-IsPermutation : (ranks : Ranks T) → AreLawful ranks → (xs ys : List T) (x : T) → IsSound ranks xs → IsPermutation xs ys → order ranks xs x ≡ order ranks ys x
-  order-IsPermutation ranks laws xs ys x = listing-IsPermutation ranks (like ranks x) (AreNames-like ranks x laws) xs ys
+  pub conflicting-IsPermutation : (ranks : Ranks T) → AreLawful ranks → (xs ys : List T) (x : T) → IsSound ranks xs → IsPermutation xs ys → conflicting ranks xs x ≡ conflicting ranks ys x
+  conflicting-IsPermutation ranks laws xs ys x = listing-IsPermutation ranks (tests_of ranks x) (AreNames-tests_of ranks x laws) xs ys
 
-  pub over-IsPermutation : (ranks : Ranks T) (xs ys : List T) (x : T) → IsPermutation xs ys → IsPermutation (over ranks xs x) (over ranks ys x)
-  over-IsPermutation ranks xs ys x p = IsPermutation-cons x _ _ (IsPermutation-filter (λ y. not (some_of (like ranks x) y)) xs ys p)
+  pub with_item-IsPermutation : (ranks : Ranks T) (xs ys : List T) (x : T) → IsPermutation xs ys → IsPermutation (with_item ranks xs x) (with_item ranks ys x)
+  with_item-IsPermutation ranks xs ys x p = IsPermutation-cons x _ _ (IsPermutation-filter (λ y. not (some_of (tests_of ranks x) y)) xs ys p)
 
   pub Contains-filter : (p : T → Bool) (xs : List T) (x : T) → p x ≡ true → Contains xs x → Contains (filter p xs) x
   Contains-filter p [] x e found = absurd (omega (arith, found.1))

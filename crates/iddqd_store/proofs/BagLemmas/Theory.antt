@@ -1,5 +1,5 @@
 -- Theorems about a bag; some of them are used for calls. They say how its words are related: writing in place (`swap`),
--- building from a list (`overs`, `adds`), keeping and rewriting some items, counting by hashes.
+-- building from a list (`with_items`, `adds`), keeping and rewriting some items, counting by hashes.
 use Rattle.std.specs.Prelude.{◌≡◌, ◌≢◌, ℕ, ◌+◌, ◌<◌, ◌≤◌, ◌==◌, Bool, true, false, cond, not, List, [], ◌∷◌, ◌++◌, length, filter, fold, Option, Some, None, Ok, Err, IsPermutation}
 use Rattle.std.specs.List.{IsDistinct, AllByRecursion, items_where_true}
 use Rattle.std.specs.Option.{option_map, option_to_list}
@@ -10,23 +10,23 @@ use Rattle.std.proofs.lemmas.List.Sums.{fold-append}
 use Rattle.std.proofs.lemmas.List.Folds.{fold_stays}
 use Rattle.std.proofs.lemmas.Bool.{not-true}
 use Rattle.iddqd_store.proofs.BagLemmas.Exchanges.{IsPermutation-filter}
-use Rattle.iddqd_store.proofs.BagLemmas.Steps.{none_passes, clash-empty, add-apart, add-refused, adds_push, agrees-conflicts}
-use Rattle.iddqd_store.proofs.BagLemmas.Sound.{length-listing, AreNames-like, each_weaker, each_passes, all_pass, IsDistinct-nil, IsDistinct-filter, IsSound-IsPermutation, order-IsPermutation}
-use Rattle.iddqd_store.specs.Bag.{Ranks, some_of, without, like, conflicts, agrees, IsSound, order, over, overs, add_next, adds, swap, Keeps, crowd, AreLawful}
+use Rattle.iddqd_store.proofs.BagLemmas.Steps.{none_passes, conflicts_of-empty, add-apart, add-refused, adds_push, agrees-do_conflict}
+use Rattle.iddqd_store.proofs.BagLemmas.Sound.{length-listing, AreNames-tests_of, each_weaker, each_passes, all_pass, IsDistinct-nil, IsDistinct-filter, IsSound-IsPermutation, conflicting-IsPermutation}
+use Rattle.iddqd_store.specs.Bag.{Ranks, some_of, remainder, tests_of, do_conflict, agrees, IsSound, conflicting, with_item, with_items, add_next, adds, swap, Keeps, crowd, AreLawful}
 use Rattle.iddqd_store.specs.Bag.Storing.{Rewrites, RewritesAll}
 
 module _ {T : Type 0} where
-  pub length-order : (ranks : Ranks T) (bag : List T) (x : T) → AreLawful ranks → IsSound ranks bag → length (order ranks bag x) ≤ length ranks
-  length-order ranks bag x laws h = length-listing ranks (like ranks x) (AreNames-like ranks x laws) bag h
+  pub length-conflicting : (ranks : Ranks T) (bag : List T) (x : T) → AreLawful ranks → IsSound ranks bag → length (conflicting ranks bag x) ≤ length ranks
+  length-conflicting ranks bag x laws h = length-listing ranks (tests_of ranks x) (AreNames-tests_of ranks x laws) bag h
 
   -- if nothing conflicts, x in place of what conflicts is x beside the others
-  pub over-apart : (ranks : Ranks T) (bag : List T) (x : T) → order ranks bag x ≡ [] → over ranks bag x ≡ x ∷ bag
-  over-apart ranks bag x h =
-      let none = none_passes (conflicts ranks x) bag (clash-empty ranks bag x h) in
-      ap (λ l. x ∷ l) (all_pass (λ y. not (some_of (like ranks x) y)) bag (each_weaker _ _ (λ y e. ap not e) bag none))
+  pub with_item-apart : (ranks : Ranks T) (bag : List T) (x : T) → conflicting ranks bag x ≡ [] → with_item ranks bag x ≡ x ∷ bag
+  with_item-apart ranks bag x h =
+      let none = none_passes (do_conflict ranks x) bag (conflicts_of-empty ranks bag x h) in
+      ap (λ l. x ∷ l) (all_pass (λ y. not (some_of (tests_of ranks x) y)) bag (each_weaker _ _ (λ y e. ap not e) bag none))
 
-  pub overs-append : (ranks : Ranks T) (bag xs ys : List T) → overs ranks bag (xs ++ ys) ≡ overs ranks (overs ranks bag xs) ys
-  overs-append ranks bag xs ys = fold-append (over ranks) bag xs ys
+  pub with_items-append : (ranks : Ranks T) (bag xs ys : List T) → with_items ranks bag (xs ++ ys) ≡ with_items ranks (with_items ranks bag xs) ys
+  with_items-append ranks bag xs ys = fold-append (with_item ranks) bag xs ys
 
   -- after an error the rest of the list changes nothing
   pub adds-refused : (ranks : Ranks T) (bag xs ys : List T) (refusal : T × List T) → adds ranks bag xs ≡ Err refusal → adds ranks bag (xs ++ ys) ≡ Err refusal
@@ -35,48 +35,48 @@ module _ {T : Type 0} where
 
   -- one step of `adds` at a bag in another order: x is added
   pub adds-taken : (ranks : Ranks T) → AreLawful ranks → (bag xs made held : List T) (x : T) → adds ranks bag xs ≡ Ok made → IsSound ranks held
-      → IsPermutation held made → order ranks held x ≡ [] → adds ranks bag (xs ++ x ∷ []) ≡ Ok (x ∷ made)
+      → IsPermutation held made → conflicting ranks held x ≡ [] → adds ranks bag (xs ++ x ∷ []) ≡ Ok (x ∷ made)
   adds-taken ranks laws bag xs made held x so_far sound p none =
       adds_push ranks bag xs x ∙ ap (λ r. add_next ranks r x) so_far
-      ∙ add-apart ranks made x (sym (order-IsPermutation ranks laws held made x sound p) ∙ none)
+      ∙ add-apart ranks made x (sym (conflicting-IsPermutation ranks laws held made x sound p) ∙ none)
 
   -- or x is rejected, and with it the rest of the list
   pub adds-stopped : (ranks : Ranks T) → AreLawful ranks → (bag xs rest made held : List T) (x : T) → adds ranks bag xs ≡ Ok made → IsSound ranks held
-      → IsPermutation held made → order ranks held x ≢ [] → adds ranks bag (xs ++ x ∷ rest) ≡ Err (x, order ranks held x)
+      → IsPermutation held made → conflicting ranks held x ≢ [] → adds ranks bag (xs ++ x ∷ rest) ≡ Err (x, conflicting ranks held x)
   adds-stopped ranks laws bag xs rest made held x so_far sound p some =
-      let same = order-IsPermutation ranks laws held made x sound p in
-      let refused : add_next ranks (adds ranks bag xs) x ≡ Err (x, order ranks held x) =
+      let same = conflicting-IsPermutation ranks laws held made x sound p in
+      let refused : add_next ranks (adds ranks bag xs) x ≡ Err (x, conflicting ranks held x) =
       ap (λ r. add_next ranks r x) so_far ∙ add-refused ranks made x (λ e. some (same ∙ e)) ∙ ap (λ l. Err (x, l)) (sym same) in
-      fold-append (add_next ranks) (Ok bag) xs (x ∷ rest) ∙ ap (λ r. fold (add_next ranks) r rest) refused ∙ fold_stays (add_next ranks) (Err (x, order ranks held x)) (λ x. refl) rest
+      fold-append (add_next ranks) (Ok bag) xs (x ∷ rest) ∙ ap (λ r. fold (add_next ranks) r rest) refused ∙ fold_stays (add_next ranks) (Err (x, conflicting ranks held x)) (λ x. refl) rest
 
   pub IsSound-swap : (ranks : Ranks T) → AreLawful ranks → (bag : List T) (x y : T) → agrees ranks x y ≡ true → IsSound ranks bag → IsSound ranks (swap ranks bag x y)
   IsSound-swap ranks laws bag x y same h =
-      let rest : List T = without (like ranks x) bag in
-      IsDistinct-cons (conflicts ranks) y rest
-      (each_weaker _ _ (λ z e. sym (agrees-conflicts ranks laws x y z same) ∙ not-true (conflicts ranks x z) e) rest (each_passes (λ z. not (some_of (like ranks x) z)) bag))
-      (IsDistinct-filter (conflicts ranks) (λ z. not (some_of (like ranks x) z)) bag h)
+      let rest : List T = remainder (tests_of ranks x) bag in
+      IsDistinct-cons (do_conflict ranks) y rest
+      (each_weaker _ _ (λ z e. sym (agrees-do_conflict ranks laws x y z same) ∙ not-true (do_conflict ranks x z) e) rest (each_passes (λ z. not (some_of (tests_of ranks x) z)) bag))
+      (IsDistinct-filter (do_conflict ranks) (λ z. not (some_of (tests_of ranks x) z)) bag h)
 
   -- an item conflicts with itself if there is a rank
-  pub conflicts-self : (ranks : Ranks T) → AreLawful ranks → 0 < length ranks → (x : T) → conflicts ranks x x ≡ true
-  conflicts-self [] laws h x = absurd (omega arith)
-  conflicts-self (agree ∷ ranks) laws h x = rw (laws.0.refl x) refl
+  pub do_conflict-self : (ranks : Ranks T) → AreLawful ranks → 0 < length ranks → (x : T) → do_conflict ranks x x ≡ true
+  do_conflict-self [] laws h x = absurd (omega arith)
+  do_conflict-self (agree ∷ ranks) laws h x = rw (laws.0.refl x) refl
 
   -- `swap` removes its member and inserts the other
   pub swap-is : (ranks : Ranks T) → AreLawful ranks → 0 < length ranks → (bag rest : List T) (x y : T) → IsSound ranks bag
       → IsPermutation bag (x ∷ rest) → IsPermutation (swap ranks bag x y) (y ∷ rest)
   swap-is ranks laws some bag rest x y sound p =
-      let test : T → Bool = λ z. not (some_of (like ranks x) z) in
-      let apart = IsDistinct-head (conflicts ranks) x rest (IsSound-IsPermutation ranks laws bag (x ∷ rest) p sound) in
+      let test : T → Bool = λ z. not (some_of (tests_of ranks x) z) in
+      let apart = IsDistinct-head (do_conflict ranks) x rest (IsSound-IsPermutation ranks laws bag (x ∷ rest) p sound) in
       let kept : filter test (x ∷ rest) ≡ rest =
-      rw (conflicts-self ranks laws some x) (all_pass test rest (each_weaker _ _ (λ z e. ap not e) rest apart)) in
+      rw (do_conflict-self ranks laws some x) (all_pass test rest (each_weaker _ _ (λ z e. ap not e) rest apart)) in
       IsPermutation-cons y _ _ (subst (IsPermutation (filter test bag)) kept (IsPermutation-filter test bag (x ∷ rest) p))
 
   pub swap-IsPermutation : (ranks : Ranks T) (xs ys : List T) (x y : T) → IsPermutation xs ys → IsPermutation (swap ranks xs x y) (swap ranks ys x y)
-  swap-IsPermutation ranks xs ys x y p = IsPermutation-cons y _ _ (IsPermutation-filter (λ z. not (some_of (like ranks x) z)) xs ys p)
+  swap-IsPermutation ranks xs ys x y p = IsPermutation-cons y _ _ (IsPermutation-filter (λ z. not (some_of (tests_of ranks x) z)) xs ys p)
 
   -- a part of a sound bag is sound
   pub IsSound-filter : (ranks : Ranks T) (p : T → Bool) (bag : List T) → IsSound ranks bag → IsSound ranks (filter p bag)
-  IsSound-filter ranks p bag h = IsDistinct-filter (conflicts ranks) p bag h
+  IsSound-filter ranks p bag h = IsDistinct-filter (do_conflict ranks) p bag h
 
   each-where_true : (P : T → Type 0) (bs : List Bool) (xs : List T) → AllByRecursion P xs → AllByRecursion P (items_where_true bs xs)
   each-where_true P [] xs h = tt
@@ -95,7 +95,7 @@ module _ {T : Type 0} where
   IsSound-keeps step f ranks laws bag kept h sound =
       let answers = h.filtered in
       let listed = IsSound-IsPermutation ranks laws bag h.listed h.same sound in
-      let left : IsSound ranks h.left = subst (IsSound ranks) (sym answers.4) (IsDistinct-where_true (conflicts ranks) answers.0 h.listed listed) in
+      let left : IsSound ranks h.left = subst (IsSound ranks) (sym answers.4) (IsDistinct-where_true (do_conflict ranks) answers.0 h.listed listed) in
       IsSound-IsPermutation ranks laws h.left kept (IsPermutation-sym _ _ h.are) left
 
   length-where_true : (bs : List Bool) (xs : List T) → length (items_where_true bs xs) ≤ length xs

@@ -7,7 +7,7 @@ use Rattle.std.proofs.lemmas.Fn.{filter_same}
 use Rattle.std.proofs.lemmas.Map.Keys.{IsDistinct-head}
 use Rattle.std.proofs.lemmas.List.Sorted.{IsPermutation-sym, IsPermutation-trans, list_any-IsPermutation}
 use Rattle.std.proofs.lemmas.Bool.{or_parts, and_parts}
-use Rattle.iddqd_store.specs.Bag.{Filters, Keeps, Ranks, AreLawful, IsSound, agrees, clash, like, some_of}
+use Rattle.iddqd_store.specs.Bag.{Filters, Keeps, Ranks, AreLawful, IsSound, agrees, conflicts_of, tests_of, some_of}
 use Rattle.iddqd_store.specs.Bag.Building.{IsReason}
 use Rattle.iddqd_store.specs.Map.{Map, Overwrites, bag}
 use Rattle.iddqd_store.specs.declared.error.InsertReason.{InsertReason}
@@ -37,8 +37,8 @@ module _ {T : Type 0} where
       rw both.0 (none_left tests xs both.1)
 
   -- nothing conflicts with an item if no member has its key of any rank
-  pub none-clash : (ranks : Ranks T) (bag : List T) (x : T) → PassNone (like ranks x) bag → clash ranks bag x ≡ []
-  none-clash ranks bag x none = none_left (like ranks x) bag none
+  pub none-conflicts_of : (ranks : Ranks T) (bag : List T) (x : T) → PassNone (tests_of ranks x) bag → conflicts_of ranks bag x ≡ []
+  none-conflicts_of ranks bag x none = none_left (tests_of ranks x) bag none
 
   none_conflicting : (tests : List (T → Bool)) (x : T) (xs : List T) → some_of tests x ≡ false → PassNone tests xs → PassNone tests (x ∷ xs)
   none_conflicting [] x xs none others = tt
@@ -61,24 +61,24 @@ module _ {T : Type 0} where
   none_pass_any tests (x ∷ xs) none = none_if tests x xs (some_of tests x) refl none (λ rest. none_pass_any tests xs rest)
 
   -- the reason for which an item is not inserted, if it says whether some member has a key of the item
-  pub taken-reason : (ranks : Ranks T) (bag : List T) (x : T) (reason : InsertReason) → (reason ≡ Duplicate → PassNone (like ranks x) bag → ⊥)
-      → (reason ≡ Memory → PassNone (like ranks x) bag) → IsReason reason (clash ranks bag x)
-  taken-reason ranks bag x Duplicate met free = λ none. met refl (none_pass_any (like ranks x) bag none)
-  taken-reason ranks bag x Memory met free = none-clash ranks bag x (free refl)
+  pub taken-reason : (ranks : Ranks T) (bag : List T) (x : T) (reason : InsertReason) → (reason ≡ Duplicate → PassNone (tests_of ranks x) bag → ⊥)
+      → (reason ≡ Memory → PassNone (tests_of ranks x) bag) → IsReason reason (conflicts_of ranks bag x)
+  taken-reason ranks bag x Duplicate met free = λ none. met refl (none_pass_any (tests_of ranks x) bag none)
+  taken-reason ranks bag x Memory met free = none-conflicts_of ranks bag x (free refl)
 
   -- no item that is left after a removal conflicts with it either
   pub none-left : (test : T → Bool) (old bag : List T) (x : T) → IsPermutation old (x ∷ bag) → list_any test old ≡ false → list_any test bag ≡ false
   none-left test old bag x taken none = (or_parts (test x) (list_any test bag) (sym (list_any-IsPermutation test old (x ∷ bag) taken) ∙ none)).1
 
   -- an item that conflicts with nothing does not conflict with what is left after a removal
-  pub clash-left : (ranks : Ranks T) (old rest : List T) (x y : T) → clash ranks old y ≡ [] → IsPermutation old (x ∷ rest) → clash ranks rest y ≡ []
-  clash-left ranks old rest x y free taken = free_left ranks old rest x y taken free
+  pub conflicts_of-left : (ranks : Ranks T) (old rest : List T) (x y : T) → conflicts_of ranks old y ≡ [] → IsPermutation old (x ∷ rest) → conflicts_of ranks rest y ≡ []
+  conflicts_of-left ranks old rest x y free taken = free_left ranks old rest x y taken free
 
   none_at : (agree : T → T → Bool) → IsEquivalence agree → (bag : List T) (x y : T) → IsDistinct agree (x ∷ bag) → agree x y ≡ true → list_any (agree y) bag ≡ false
   none_at agree laws bag x y apart same =
       any_listed (agree y) bag ∙ ap some_item (none_pass (agree y) bag (each_weaker _ _ (λ z other. sym (laws.congr x y z same) ∙ other) bag (IsDistinct-head agree x bag apart)))
 
-  none_elsewhere : (ranks : Ranks T) → AreLawful ranks → (bag : List T) (x y : T) → IsSound ranks (x ∷ bag) → agrees ranks x y ≡ true → PassNone (like ranks y) bag
+  none_elsewhere : (ranks : Ranks T) → AreLawful ranks → (bag : List T) (x y : T) → IsSound ranks (x ∷ bag) → agrees ranks x y ≡ true → PassNone (tests_of ranks y) bag
   none_elsewhere [] laws bag x y sound same = tt
   none_elsewhere (agree ∷ ranks) laws bag x y sound same =
       let both = and_parts (agree x y) (agrees ranks x y) same in
@@ -87,7 +87,7 @@ module _ {T : Type 0} where
 
   none_again : (first rest : Ranks T) (agree : T → T → Bool) → AreLawful (first ++ agree ∷ rest) → (bag : List T) (x y : T)
       → IsSound (first ++ agree ∷ rest) (x ∷ bag) → agrees first x y ≡ true → agrees rest x y ≡ true → list_any (agree y) bag ≡ false
-      → PassNone (like (first ++ agree ∷ rest) y) bag
+      → PassNone (tests_of (first ++ agree ∷ rest) y) bag
   none_again [] rest agree laws bag x y sound before behind none =
       (none, none_elsewhere rest laws.1 bag x y (IsSound-rank agree rest (x ∷ bag) sound).1 behind)
   none_again (other ∷ first) rest agree laws bag x y sound before behind none =
@@ -99,9 +99,9 @@ module _ {T : Type 0} where
   -- the ranks before and after it y has the keys of x
   pub none-clash_again : (first rest : Ranks T) (agree : T → T → Bool) → AreLawful (first ++ agree ∷ rest) → (old bag : List T) (x y : T)
       → IsSound (first ++ agree ∷ rest) old → IsPermutation old (x ∷ bag) → agrees first x y ≡ true → agrees rest x y ≡ true
-      → list_any (agree y) old ≡ false → clash (first ++ agree ∷ rest) bag y ≡ []
+      → list_any (agree y) old ≡ false → conflicts_of (first ++ agree ∷ rest) bag y ≡ []
   none-clash_again first rest agree laws old bag x y sound taken before behind none =
-      none-clash (first ++ agree ∷ rest) bag y
+      none-conflicts_of (first ++ agree ∷ rest) bag y
       (none_again first rest agree laws bag x y (IsSound-IsPermutation (first ++ agree ∷ rest) laws old (x ∷ bag) taken sound) before behind (none-left (agree y) old bag x taken none))
 
   -- `retain` with a closure that a call leaves as it is, and that returns `test`, keeps those that pass

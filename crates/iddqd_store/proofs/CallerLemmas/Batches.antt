@@ -9,7 +9,7 @@ use Rattle.std.proofs.IntoIterSteps.{All-taken}
 use Rattle.std.proofs.Math.Seq.{take-append_seam}
 use Rattle.std.proofs.lemmas.List.Elements.{All-contains_itself, All-weaker, Contains-append_left, Contains-append_right}
 use Rattle.std.proofs.lemmas.List.Sorted.{Contains-permutation, IsPermutation-sym}
-use Rattle.iddqd_store.specs.Bag.{Ranks, IsOnly, IsSound, clash}
+use Rattle.iddqd_store.specs.Bag.{Ranks, IsOnly, IsSound, conflicts_of}
 use Rattle.iddqd_store.specs.Bag.Building.{AddsTo, IsReason}
 use Rattle.iddqd_store.specs.Callers.{IsRejected}
 use Rattle.iddqd_store.specs.Rank.{agree}
@@ -35,7 +35,7 @@ module _ {T Z : Type 0} (ranks : Ranks T) (old batch : List T) (it : IntoIter T 
 
   -- that item was rejected
   pub batch-refused : (x : T) (reason : InsertReason) (taken xs : List T) (rest : IntoIter T Z) → YieldsThen into_iter_steps it xs (Some x) rest
-      → xs ≡ taken → IsSound ranks (taken ++ old) → IsReason reason (clash ranks (taken ++ old) x) → IsRejected ranks old batch x reason
+      → xs ≡ taken → IsSound ranks (taken ++ old) → IsReason reason (conflicts_of ranks (taken ++ old) x) → IsRejected ranks old batch x reason
   batch-refused x reason taken xs rest came same apart why = (taken, into_iter_items rest, batch-split x taken xs rest came same, apart, why)
 
 module _ {T : Type 0} where

@@ -6,8 +6,8 @@ use Rattle.std.proofs.lemmas.List.Elements.{filter-append}
 use Rattle.std.proofs.lemmas.List.Sorted.{IsPermutation-refl}
 use Rattle.iddqd_store.specs.Map.{Map, bag}
 use Rattle.iddqd_store.specs.Map.Extracting.{Extracts, PopsFrom, Rejects}
-use Rattle.iddqd_store.specs.Map.Walk.{passed, to_come}
-use Rattle.iddqd_store.proofs.CallerLemmas.{passed-to_come}
+use Rattle.iddqd_store.specs.Map.Walk.{passed_items, to_come}
+use Rattle.iddqd_store.proofs.CallerLemmas.{passed_items-to_come}
 
 -- `told`: a call of the closure returns `test`, and leaves the closure as it is.
 module _ {F T : Type 0} (step : F → T → Bool → F → Type 0) (test : T → Bool) (f : F) (told : (x : T) (b : Bool) (g : F) → step f x b g → (b ≡ test x) × (g ≡ f)) where
@@ -28,7 +28,7 @@ module _ {T S : Type 0} (test : T → Bool) where
     pub done : List T
     pub whole : all ≡ done ++ to_come m at
     pub left : gone ≡ filter test done
-    pub stays : passed m at ≡ filter (λ x. not (test x)) done
+    pub stays : passed_items m at ≡ filter (λ x. not (test x)) done
 
   -- after a step that gave `x`, fewer had left before it than there were
   pub extracted-fewer : (m : Map T S) (at : ℕ) (all gone : List T) (x : T) → HasExtracted all (gone ++ x ∷ []) m at → length gone < length all
@@ -37,7 +37,7 @@ module _ {T S : Type 0} (test : T → Bool) where
 
   -- before the first step
   pub extracted-start : (m : Map T S) → HasExtracted (bag m) [] m 0
-  extracted-start m = record { done = []; whole = passed-to_come m 0; left = refl; stays = refl }
+  extracted-start m = record { done = []; whole = passed_items-to_come m 0; left = refl; stays = refl }
 
   module _ {F : Type 0} (step : F → T → Bool → F → Type 0) (f : F) (told : (x : T) (b : Bool) (g : F) → step f x b g → (b ≡ test x) × (g ≡ f)) where
     -- a step that gives an item
@@ -66,7 +66,7 @@ module _ {T S : Type 0} (test : T → Bool) where
         let apart = rejected-fail step test f told step_is.state step_is.rejected step_is.rejects in
         let rest : to_come m from ≡ step_is.rejected = step_is.comes ∙ ap (λ l. step_is.rejected ++ l) step_is.none_left ∙ append-nil step_is.rejected in
         let whole : all ≡ was.done ++ step_is.rejected = was.whole ∙ ap (λ l. was.done ++ l) rest in
-        let all_passed : bag n ≡ passed n to = passed-to_come n to ∙ ap (λ l. passed n to ++ l) step_is.none_left ∙ append-nil (passed n to) in
+        let all_passed : bag n ≡ passed_items n to = passed_items-to_come n to ∙ ap (λ l. passed_items n to ++ l) step_is.none_left ∙ append-nil (passed_items n to) in
         let out : gone ≡ filter test all = rw (whole, filter-append test was.done step_is.rejected, apart.0, append-nil (filter test was.done)) was.left in
         let kept : bag n ≡ filter (λ x. not (test x)) all = all_passed
         ∙ rw (whole, filter-append (λ y. not (test y)) was.done step_is.rejected, apart.1)
@@ -77,11 +77,11 @@ module _ {T S : Type 0} where
   -- What a loop over `pop_from` keeps: the items that were passed left, and no other item.
   pub record HasPopped (all gone : List T) (m : Map T S) (at : ℕ) : Type 0 where
     pub whole : all ≡ gone ++ to_come m at
-    pub none_before : passed m at ≡ []
+    pub none_before : passed_items m at ≡ []
 
   -- before the first step
   pub popped-start : (m : Map T S) → HasPopped (bag m) [] m 0
-  popped-start m = record { whole = passed-to_come m 0; none_before = refl }
+  popped-start m = record { whole = passed_items-to_come m 0; none_before = refl }
 
   -- a step that gives an item
   pub popped-on : (m n : Map T S) (from to : ℕ) (all gone : List T) (x : T) → PopsFrom m from (Some x) n to → HasPopped all gone m from → HasPopped all (gone ++ x ∷ []) n to
@@ -99,4 +99,4 @@ module _ {T S : Type 0} where
   pub popped-end : (m n : Map T S) (from to : ℕ) (all gone : List T) → PopsFrom m from None n to → HasPopped all gone m from → IsPermutation gone all × (bag n ≡ [])
   popped-end m n from to all gone pops was =
       let out : gone ≡ all = sym (was.whole ∙ ap (λ l. gone ++ l) (pops.comes ∙ pops.none_left) ∙ append-nil gone) in
-      (subst (IsPermutation gone) out (IsPermutation-refl gone), passed-to_come n to ∙ rw (pops.none_left) (append-nil (passed n to) ∙ pops.before ∙ was.none_before))
+      (subst (IsPermutation gone) out (IsPermutation-refl gone), passed_items-to_come n to ∙ rw (pops.none_left) (append-nil (passed_items n to) ∙ pops.before ∙ was.none_before))

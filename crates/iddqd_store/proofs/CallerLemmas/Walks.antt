@@ -4,8 +4,8 @@ use Rattle.std.proofs.Common.{sym, ap, ◌∙◌, subst, append-nil, append_asso
 use Rattle.std.proofs.lemmas.List.Sorted.{IsPermutation-refl}
 use Rattle.std.proofs.lemmas.List.{map-append}
 use Rattle.iddqd_store.specs.Map.{Map, bag}
-use Rattle.iddqd_store.specs.Map.Walk.{passed, to_come, Passes}
-use Rattle.iddqd_store.proofs.CallerLemmas.{passed-to_come}
+use Rattle.iddqd_store.specs.Map.Walk.{passed_items, to_come, Passes}
+use Rattle.iddqd_store.proofs.CallerLemmas.{passed_items-to_come}
 
 module _ {T : Type 0} (put : T → T) where
   -- one more item is written
@@ -15,9 +15,9 @@ module _ {T : Type 0} (put : T → T) where
       (goes ∙ ap (λ l. l ++ put x ∷ []) was ∙ sym (map-append put done (x ∷ [])), append_assoc done (x ∷ []) rest ∙ ap (λ l. done ++ x ∷ l) stays ∙ ap (λ l. done ++ l) (sym comes) ∙ held)
 
   -- all items are written if none is to come
-  pub all_done : {S : Type 0} (m : Map T S) (at : ℕ) (done all : List T) → passed m at ≡ map put done → done ++ to_come m at ≡ all → to_come m at ≡ [] → IsPermutation (bag m) (map put all)
+  pub all_done : {S : Type 0} (m : Map T S) (at : ℕ) (done all : List T) → passed_items m at ≡ map put done → done ++ to_come m at ≡ all → to_come m at ≡ [] → IsPermutation (bag m) (map put all)
   all_done m at done all was held none =
-      let whole : bag m ≡ passed m at = passed-to_come m at ∙ ap (λ l. passed m at ++ l) none ∙ append-nil (passed m at) in
+      let whole : bag m ≡ passed_items m at = passed_items-to_come m at ∙ ap (λ l. passed_items m at ++ l) none ∙ append-nil (passed_items m at) in
       let same : done ≡ all = sym (append-nil done) ∙ ap (λ l. done ++ l) (sym none) ∙ held in
       subst (IsPermutation (bag m)) (whole ∙ was ∙ ap (map put) same) (IsPermutation-refl (bag m))
 
@@ -32,7 +32,7 @@ some_holds P None some h = absurd (cc some)
 some_holds P (Some x) some h = (x, h)
 
 -- the first item is written if none was passed
-pub first_written : {T S : Type 0} (m : Map T S) (from : ℕ) (x : T) (w : (T → T) → Map T S) (to : ℕ) (all : List T) → passed m from ≡ []
+pub first_written : {T S : Type 0} (m : Map T S) (from : ℕ) (x : T) (w : (T → T) → Map T S) (to : ℕ) (all : List T) → passed_items m from ≡ []
     → to_come m from ≡ all → Passes m from x w to → (f : T → T) → (all ≡ x ∷ to_come m to) × (bag (w f) ≡ f x ∷ to_come m to)
 first_written m from x w to all none is pass f =
-    (sym is ∙ pass.comes, passed-to_come (w f) to ∙ ap (λ l. l ++ to_come (w f) to) (pass.before f ∙ ap (λ l. l ++ f x ∷ []) none) ∙ ap (λ l. f x ∷ l) (pass.behind f))
+    (sym is ∙ pass.comes, passed_items-to_come (w f) to ∙ ap (λ l. l ++ to_come (w f) to) (pass.before f ∙ ap (λ l. l ++ f x ∷ []) none) ∙ ap (λ l. f x ∷ l) (pass.behind f))

@@ -4,10 +4,10 @@ use Rattle.std.specs.Prelude.{IsPermutation}
 use Rattle.std.specs.Iterator.{Yields, YieldsThen}
 use Rattle.std.proofs.lemmas.List.{take_all, take-append-le}
 use Rattle.std.proofs.lemmas.List.Sorted.{length_permutation}
-use Rattle.iddqd_store.specs.Bag.{Ranks, over, overs}
+use Rattle.iddqd_store.specs.Bag.{Ranks, with_item, with_items}
 use Rattle.iddqd_store.specs.Map.State.{State, FitsOnTheWay, ExtendsTo}
 use Rattle.iddqd_store.proofs.Plain.{by_order}
-use Rattle.iddqd_store.proofs.BagLemmas.Steps.{overs-step}
+use Rattle.iddqd_store.proofs.BagLemmas.Steps.{with_items-step}
 
 module _ {S T : Type 0} (steps : S → Option T → S → Type 0) (left : S → List T) (first : (s t : S) (x : T) → steps s (Some x) t → left s ≡ x ∷ left t) where
   -- the items that came and those that are left are those that were left before
@@ -21,16 +21,16 @@ module _ {S T : Type 0} (steps : S → Option T → S → Type 0) (left : S → 
 
 module _ {T : Type 0} (ranks : Ranks T) where
   -- one more item came
-  pub ExtendsTo-push : (old held new : State T) (xs : List T) (x : T) → ExtendsTo ranks old xs held → IsPermutation new.items (over ranks held.items x)
+  pub ExtendsTo-push : (old held new : State T) (xs : List T) (x : T) → ExtendsTo ranks old xs held → IsPermutation new.items (with_item ranks held.items x)
       → length new.items ≤ new.capacity → held.capacity ≤ new.capacity → ExtendsTo ranks old (xs ++ x ∷ []) new
   ExtendsTo-push old held new xs x so_far put fits no_less = (items, way, omega (arith, so_far.2))
     where
-      items : IsPermutation new.items (overs ranks old.items (xs ++ x ∷ []))
-      items = overs-step ranks old.items xs held.items new.items x so_far.0 put
+      items : IsPermutation new.items (with_items ranks old.items (xs ++ x ∷ []))
+      items = with_items-step ranks old.items xs held.items new.items x so_far.0 put
 
       way : FitsOnTheWay ranks old.items (xs ++ x ∷ []) new.capacity
       way n =
-          let at : List T → Type 0 = λ l. length (overs ranks old.items l) ≤ new.capacity in
+          let at : List T → Type 0 = λ l. length (with_items ranks old.items l) ≤ new.capacity in
           by_order (length xs) n
           (λ (past : length xs < n).
           subst at (sym (take_all n (xs ++ x ∷ []) (omega (arith, length-append xs (x ∷ []))))) (omega (arith, length_permutation _ _ items)))

@@ -3,7 +3,7 @@ use Rattle.std.specs.Prelude.{◌≡◌, ◌≤◌, ℕ, ◌+◌, Bool, true, fa
 use Rattle.std.proofs.Common.{arith, refl, sym, ap, ◌∙◌, subst, set, append_assoc, append-nil}
 use Rattle.iddqd_store.specs.Map.{Map}
 use Rattle.iddqd_store.specs.Map.Extracting.{Extracts, PopsFrom, Rejects}
-use Rattle.iddqd_store.specs.Map.Walk.{passed, to_come}
+use Rattle.iddqd_store.specs.Map.Walk.{passed_items, to_come}
 use Rattle.iddqd_store.specs.Slots.Next.{ComesNext}
 use Rattle.iddqd_store.proofs.SlotLemmas.Next.{emptied_before, same_behind, taken_before}
 
@@ -18,11 +18,11 @@ module _ {F T S : Type 0} (step : F → T → Bool → F → Type 0) where
     pub rejected : List T
     pub rejects : Rejects step f rejected q
     pub comes : to_come m from ≡ rejected ++ to_come m at
-    pub before : passed m at ≡ passed m from ++ rejected
+    pub before : passed_items m at ≡ passed_items m from ++ rejected
     pub onward : from ≤ at
 
   pub rejected-start : (f : F) (m : Map T S) (from : ℕ) → HasRejected f m from f from
-  rejected-start f m from = record { rejected = []; rejects = refl; comes = refl; before = sym (append-nil (passed m from)); onward = omega arith }
+  rejected-start f m from = record { rejected = []; rejects = refl; comes = refl; before = sym (append-nil (passed_items m from)); onward = omega arith }
 
   pub rejected-on : (f q g : F) (m : Map T S) (from at slot : ℕ) (x : T) → ComesNext m.slots at slot x → step q x false g → HasRejected f m from q at → HasRejected f m from g (slot + 1)
   rejected-on f q g m from at slot x next called was =
@@ -30,7 +30,7 @@ module _ {F T S : Type 0} (step : F → T → Bool → F → Type 0) where
         rejected = was.rejected ++ x ∷ [];
         rejects = rejects_on step f q g was.rejected x was.rejects called;
         comes = was.comes ∙ ap (λ l. was.rejected ++ l) next.rest ∙ sym (append_assoc was.rejected (x ∷ []) (to_come m (slot + 1)));
-        before = taken_before m.slots at slot x next ∙ ap (λ l. l ++ x ∷ []) was.before ∙ append_assoc (passed m from) was.rejected (x ∷ []);
+        before = taken_before m.slots at slot x next ∙ ap (λ l. l ++ x ∷ []) was.before ∙ append_assoc (passed_items m from) was.rejected (x ∷ []);
         onward = omega (arith, was.onward, next.ahead);
       }
 

@@ -3,7 +3,7 @@ use Rattle.std.specs.List.{list_any}
 use Rattle.std.specs.Prelude.{◌≡◌, ◌+◌, ◌<◌, ◌≤◌, ℕ, suc, Bool, List, [], ◌∷◌, ◌++◌, length, IsPermutation}
 use Rattle.std.proofs.Common.{le_of_eq, le_trans, subst, sym, ◌∙◌}
 use Rattle.std.proofs.lemmas.List.Sorted.{IsPermutation-sym, length_permutation, list_any-IsPermutation}
-use Rattle.iddqd_store.specs.Bag.{Ranks, AreLawful, IsSound, clash}
+use Rattle.iddqd_store.specs.Bag.{Ranks, AreLawful, IsSound, conflicts_of}
 use Rattle.iddqd_store.specs.Bag.Building.{AddsTo}
 use Rattle.iddqd_store.specs.Map.{Map, bag, Gains, GrowsUnless, Loses, Overwrites}
 use Rattle.iddqd_store.specs.Slots.{contents}
@@ -72,7 +72,7 @@ pub no_batch : {T S : Type 0} (ranks : Ranks T) {certain : Type 0} {left : ℕ} 
 no_batch ranks m room = record { added = AddsTo-nil ranks (bag m); noted = StandAt-nil m.slots; room = room }
 
 module _ {T S : Type 0} {ranks : Ranks T} {certain : Type 0} {left : ℕ} {old now : Map T S} {notes : List ℕ} {xs : List T} (batch : InsertsBatch ranks certain left old now notes xs) where
-  pub one_more : {new : Map T S} {more : List ℕ} {x : T} (next : ℕ) → next < left → clash ranks (bag now) x ≡ [] → Gains now x new
+  pub one_more : {new : Map T S} {more : List ℕ} {x : T} (next : ℕ) → next < left → conflicts_of ranks (bag now) x ≡ [] → Gains now x new
       → ((ys : List T) → StandAt now.slots notes ys → StandAt new.slots more (ys ++ x ∷ [])) → InsertsBatch ranks certain next old new more (xs ++ x ∷ [])
   one_more {new} {more} {x} next nearer free gains note = record {
     added = AddsTo-push ranks (bag old) (bag now) (bag new) xs x batch.added free gains.items;

@@ -1,18 +1,18 @@
 -- Lemmas for an item that takes the place of those that conflict with it.
 use Rattle.std.specs.Prelude.{◌≡◌, ◌++◌, ◌∷◌, ℕ, List, [], IsPermutation}
 use Rattle.std.proofs.Common.{arith}
-use Rattle.iddqd_store.specs.Bag.{Ranks, clash, order, over}
+use Rattle.iddqd_store.specs.Bag.{Ranks, conflicts_of, conflicting, with_item}
 use Rattle.iddqd_store.specs.Map.{Map, Gains, Overwrites, PutsAt, bag}
-use Rattle.iddqd_store.proofs.BagLemmas.Over.{over-taken}
+use Rattle.iddqd_store.proofs.BagLemmas.Over.{with_item-taken}
 use Rattle.iddqd_store.proofs.MapLemmas.Places.{over_none}
 
 module _ {T S : Type 0} (ranks : Ranks T) (old new : Map T S) (x : T) where
   -- an item that is put in the place of those that conflict with it is put over the bag
-  pub PutsAt-over : (slot : ℕ) (rest : List T) → IsPermutation (bag old) (order ranks (bag old) x ++ rest)
-      → PutsAt ranks old slot x (x ∷ rest) new → PutsAt ranks old slot x (over ranks (bag old) x) new
-  PutsAt-over slot rest out put = record {
+  pub PutsAt-with_item : (slot : ℕ) (rest : List T) → IsPermutation (bag old) (conflicting ranks (bag old) x ++ rest)
+      → PutsAt ranks old slot x (x ∷ rest) new → PutsAt ranks old slot x (with_item ranks (bag old) x) new
+  PutsAt-with_item slot rest out put = record {
     at = put.at;
-    items = over-taken ranks (bag old) rest (bag new) x out put.items;
+    items = with_item-taken ranks (bag old) rest (bag new) x out put.items;
     sound = put.sound;
     fits = put.fits;
     same_room = put.same_room;
@@ -20,7 +20,7 @@ module _ {T S : Type 0} (ranks : Ranks T) (old new : Map T S) (x : T) where
   }
 
   -- an item that conflicts with none overwrites nothing
-  pub Overwrites-gains : clash ranks (bag old) x ≡ [] → Gains old x new → Overwrites ranks old x new
+  pub Overwrites-gains : conflicts_of ranks (bag old) x ≡ [] → Gains old x new → Overwrites ranks old x new
   Overwrites-gains free gains = record {
     items = over_none ranks (bag old) x free (bag new) gains.items;
     fits = gains.fits;
@@ -31,7 +31,7 @@ module _ {T S : Type 0} (ranks : Ranks T) (old new : Map T S) (x : T) where
   }
 
   -- an item in the place of those that conflict with it overwrites them
-  pub Overwrites-puts : (slot : ℕ) → PutsAt ranks old slot x (over ranks (bag old) x) new → Overwrites ranks old x new
+  pub Overwrites-puts : (slot : ℕ) → PutsAt ranks old slot x (with_item ranks (bag old) x) new → Overwrites ranks old x new
   Overwrites-puts slot puts = record {
     items = puts.items;
     fits = puts.fits;

@@ -6,15 +6,15 @@ use Rattle.std.specs.Option.{IfSome, option_to_list}
 use Rattle.std.proofs.Common.{refl, sym, ap, subst, ◌∙◌, arith}
 use Rattle.std.proofs.lemmas.List.{nil_from_length}
 use Rattle.std.proofs.lemmas.List.Sorted.{IsPermutation-refl, IsPermutation-sym}
-use Rattle.iddqd_store.specs.Bag.{Ranks, clash, like, order, over, some_of}
-use Rattle.iddqd_store.specs.Map.{Map, bag, IsBlockedAt}
+use Rattle.iddqd_store.specs.Bag.{Ranks, conflicts_of, tests_of, conflicting, with_item, some_of}
+use Rattle.iddqd_store.specs.Map.{Map, bag, ConflictsAt}
 use Rattle.iddqd_store.specs.declared.index_table.searched.Searched.{Searched}
 use Rattle.iddqd_store.specs.declared.index_table.searched.Searched.TheVariants.{Found, Vacant}
 use Rattle.iddqd_store.specs.Searched.{OnFound, OnVacant}
 use Rattle.iddqd_store.specs.Slots.{IsLive, contents, get}
 use Rattle.iddqd_store.specs.Slots.Found.{AreFound, FoundAt, StandAt, each_once, items_at}
-use Rattle.iddqd_store.proofs.BagLemmas.Over.{over-taken}
-use Rattle.iddqd_store.proofs.BagLemmas.Sound.{IsPermutation-order, same_from_short}
+use Rattle.iddqd_store.proofs.BagLemmas.Over.{with_item-taken}
+use Rattle.iddqd_store.proofs.BagLemmas.Sound.{IsPermutation-conflicting, same_from_short}
 use Rattle.iddqd_store.proofs.BagLemmas.Unique.{any_listed, some_item}
 use Rattle.iddqd_store.proofs.MapLemmas.Storing.{live_found}
 use Rattle.iddqd_store.proofs.SlotLemmas.Entries.{IsDistinct-each_once, found_listing, held_none, held_some}
@@ -32,34 +32,34 @@ module _ {T : Type 0} (slots : List (Option T)) where
   none_at (a ∷ numbers) short = absurd (omega arith)
 
 module _ {T S : Type 0} {agree : T → T → Bool} (laws : IsEquivalence agree) (m : Map T S) (apart : IsDistinct agree (bag m)) (ranks : Ranks T) (x : T)
-    (found : List (Option ℕ)) (are : AreFound (like ranks x) m.slots found) where
+    (found : List (Option ℕ)) (are : AreFound (tests_of ranks x) m.slots found) where
   -- the slots that were found list these items
-  conflicts_found : StandAt m.slots (each_once found) (order ranks (bag m) x)
+  conflicts_found : StandAt m.slots (each_once found) (conflicting ranks (bag m) x)
   conflicts_found = record {
-    items = found_listing laws m.slots apart (like ranks x) found are;
-    live = live_found m.slots found (each_live m.slots (like ranks x) found are);
+    items = found_listing laws m.slots apart (tests_of ranks x) found are;
+    live = live_found m.slots found (each_live m.slots (tests_of ranks x) found are);
     apart = IsDistinct-each_once found;
   }
 
   -- if a slot is found, the item conflicts
-  pub blocked_by : list_any is_some found ≡ true → IsBlockedAt ranks m x (each_once found)
-  blocked_by some = record {
-    some = clash_some ranks m.slots x (each_once found) conflicts_found.items conflicts_found.live (λ short. held_some m.slots (like ranks x) found are some (none_at m.slots (each_once found) short));
+  pub conflict_by : list_any is_some found ≡ true → ConflictsAt ranks m x (each_once found)
+  conflict_by some = record {
+    some = clash_some ranks m.slots x (each_once found) conflicts_found.items conflicts_found.live (λ short. held_some m.slots (tests_of ranks x) found are some (none_at m.slots (each_once found) short));
     found = conflicts_found;
   }
 
   -- if no slot is found, nothing conflicts with it
-  pub free_by : list_any is_some found ≡ false → clash ranks (bag m) x ≡ []
+  pub free_by : list_any is_some found ≡ false → conflicts_of ranks (bag m) x ≡ []
   free_by none = clash_none ranks m.slots x [] (sym (held_none m.slots found none) ∙ conflicts_found.items) refl
 
   -- if the search says which of both it was, so do these
-  pub free_on : {F V : Type 0} (r : Searched F V) → OnVacant r (list_any is_some found ≡ false) → OnVacant r (clash ranks (bag m) x ≡ [])
+  pub free_on : {F V : Type 0} (r : Searched F V) → OnVacant r (list_any is_some found ≡ false) → OnVacant r (conflicts_of ranks (bag m) x ≡ [])
   free_on (Found found) none = tt
   free_on (Vacant at) none = free_by none
 
-  pub blocked_on : {F V : Type 0} (r : Searched F V) → OnFound r (list_any is_some found ≡ true) → OnFound r (IsBlockedAt ranks m x (each_once found))
-  blocked_on (Found found) some = blocked_by some
-  blocked_on (Vacant at) some = tt
+  pub conflict_on : {F V : Type 0} (r : Searched F V) → OnFound r (list_any is_some found ≡ true) → OnFound r (ConflictsAt ranks m x (each_once found))
+  conflict_on (Found found) some = conflict_by some
+  conflict_on (Vacant at) some = tt
 
 -- a search finds a slot exactly if some item passes its test
 pub is_some-at : {T : Type 0} (test : T → Bool) (slots : List (Option T)) (at : Option ℕ) → FoundAt test slots at → is_some at ≡ list_any test (contents slots)
@@ -86,14 +86,14 @@ module _ {T : Type 0} where
   none_taken [] xs none = tt
   none_taken (test ∷ tests) xs none = let both = neither test (λ x. some_of tests x) xs none in (both.0, none_taken tests xs both.1)
 
-module _ {T : Type 0} (ranks : Ranks T) (bag : List T) (x : T) (free : clash ranks bag x ≡ []) where
+module _ {T : Type 0} (ranks : Ranks T) (bag : List T) (x : T) (free : conflicts_of ranks bag x ≡ []) where
   -- if nothing conflicts with an item, nothing is listed
-  pub order_none : order ranks bag x ≡ []
-  order_none = sym (same_from_short [] (order ranks bag x) (IsPermutation-sym _ _ (subst (IsPermutation (order ranks bag x)) free (IsPermutation-order ranks bag x))) (omega arith))
+  pub order_none : conflicting ranks bag x ≡ []
+  order_none = sym (same_from_short [] (conflicting ranks bag x) (IsPermutation-sym _ _ (subst (IsPermutation (conflicting ranks bag x)) free (IsPermutation-conflicting ranks bag x))) (omega arith))
 
   -- an item that is inserted then replaces none
-  pub over_none : (new : List T) → IsPermutation new (x ∷ bag) → IsPermutation new (over ranks bag x)
-  over_none new put = over-taken ranks bag bag new x (subst (λ l. IsPermutation bag (l ++ bag)) (sym order_none) (IsPermutation-refl bag)) put
+  pub over_none : (new : List T) → IsPermutation new (x ∷ bag) → IsPermutation new (with_item ranks bag x)
+  over_none new put = with_item-taken ranks bag bag new x (subst (λ l. IsPermutation bag (l ++ bag)) (sym order_none) (IsPermutation-refl bag)) put
 
 -- items in these slots are in equal lists of slots
 pub stand_in : {T : Type 0} {slots : List (Option T)} {xs : List T} {found others : List ℕ} → found ≡ others → StandAt slots others xs → StandAt slots found xs

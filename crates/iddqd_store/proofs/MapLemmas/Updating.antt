@@ -9,7 +9,7 @@ use Rattle.std.proofs.lemmas.List.Sorted.{IsPermutation-refl}
 use Rattle.iddqd_store.specs.Bag.{IsOnly}
 use Rattle.iddqd_store.specs.Bag.Storing.{Writes, StoresInAll, Rewrites, RewritesAll}
 use Rattle.iddqd_store.specs.Map.{Map, bag}
-use Rattle.iddqd_store.specs.Map.Walk.{Passes, passed, to_come}
+use Rattle.iddqd_store.specs.Map.Walk.{Passes, passed_items, to_come}
 use Rattle.iddqd_store.specs.Map.Written.{map_with_if}
 use Rattle.iddqd_store.specs.Slots.{IsLive, contents, get}
 use Rattle.iddqd_store.specs.Slots.Found.{FoundAt}
@@ -21,20 +21,20 @@ use Rattle.iddqd_store.proofs.SlotLemmas.Next.{before_and_behind, emptied_before
 module _ {F T S : Type 0} (Makes : F → List T → List T → Type 0) where
   -- what is made of the items so far and what is made of the rest are what is made of all
   abbrev pub Completes : F → List T → F → Map T S → ℕ → Type 0
-  Completes start all f m from = (rest : List T) → Makes f (to_come m from) rest → Makes start all (passed m from ++ rest)
+  Completes start all f m from = (rest : List T) → Makes f (to_come m from) rest → Makes start all (passed_items m from ++ rest)
 
   -- an item has been passed, and `made` is what was made of it
   completes_on : (start f g : F) (all : List T) (m new : Map T S) (from to : ℕ) (x : T) (made behind : List T) → to_come m from ≡ x ∷ behind
-      → to_come new to ≡ behind → passed new to ≡ passed m from ++ made
+      → to_come new to ≡ behind → passed_items new to ≡ passed_items m from ++ made
       → ((rest : List T) → Makes g behind rest → Makes f (x ∷ behind) (made ++ rest)) → Completes start all f m from → Completes start all g new to
   completes_on start f g all m new from to x made behind comes stays before one completes rest h =
       let on = one rest (subst (λ l. Makes g l rest) stays h) in
       let whole = completes (made ++ rest) (subst (λ l. Makes f l (made ++ rest)) (sym comes) on) in
-      subst (λ l. Makes start all l) (sym (ap (λ l. l ++ rest) before ∙ append_assoc (passed m from) made rest)) whole
+      subst (λ l. Makes start all l) (sym (ap (λ l. l ++ rest) before ∙ append_assoc (passed_items m from) made rest)) whole
 
   all_made : (start f : F) (all : List T) (m : Map T S) (from : ℕ) → to_come m from ≡ [] → Makes f [] [] → Completes start all f m from → Makes start all (bag m)
   all_made start f all m from none nothing completes =
-      subst (λ l. Makes start all l) (ap (λ l. passed m from ++ l) (sym none) ∙ before_and_behind m.slots from) (completes [] (subst (λ l. Makes f l []) (sym none) nothing))
+      subst (λ l. Makes start all l) (ap (λ l. passed_items m from ++ l) (sym none) ∙ before_and_behind m.slots from) (completes [] (subst (λ l. Makes f l []) (sym none) nothing))
 
 module _ {F T D S : Type 0} (step : F → T → D → F → Type 0) (put : T → D → T) where
   pub written_one : (start f g : F) (all : List T) (m : Map T S) (from to : ℕ) (x : T) (d : D) (written : (T → T) → Map T S) (new : Map T S)
@@ -43,7 +43,7 @@ module _ {F T D S : Type 0} (step : F → T → D → F → Type 0) (put : T →
   written_one start f g all m from to x d written new is next called =
       let w = λ (y : T). put y d in
       completes_on (Writes step put) start f g all m new from to x (put x d ∷ []) (to_come m to) next.comes
-      (ap (λ n. to_come n to) is ∙ next.behind w) (ap (λ n. passed n to) is ∙ next.before w) (λ rest h. (d, g, rest, called, refl, h))
+      (ap (λ n. to_come n to) is ∙ next.behind w) (ap (λ n. passed_items n to) is ∙ next.before w) (λ rest h. (d, g, rest, called, refl, h))
 
   pub all_written : (start f : F) (old m : Map T S) (from : ℕ) → to_come m from ≡ [] → Completes (Writes step put) start (contents old.slots) f m from → StoresInAll step put start (bag old) (bag m)
   all_written start f old m from none completes = record {
@@ -66,14 +66,14 @@ module _ {F T D S : Type 0} (step : F → T → Option D → F → Type 0) (put 
   rewritten_kept start f g all m from to x d written new is next called =
       let w = λ (y : T). put y d in
       completes_on (Rewrites step put) start f g all m new from to x (put x d ∷ []) (to_come m to) next.comes
-      (ap (λ n. to_come n to) is ∙ next.behind w) (ap (λ n. passed n to) is ∙ next.before w) (λ rest h. (Some d, g, rest, called, refl, h))
+      (ap (λ n. to_come n to) is ∙ next.behind w) (ap (λ n. passed_items n to) is ∙ next.before w) (λ rest h. (Some d, g, rest, called, refl, h))
 
   -- the closure returned nothing for the next item, which was taken out
   pub rewritten_taken : (start f g : F) (all : List T) (m new : Map T S) (from at : ℕ) (x : T) → ComesNext m.slots from at x
       → new.slots ≡ set m.slots at None → step f x None g → Completes (Rewrites step put) start all f m from
       → Completes (Rewrites step put) start all g new (at + 1)
   rewritten_taken start f g all m new from at x next is called =
-      let before : passed new (at + 1) ≡ passed m from ++ [] = rw is (emptied_before m.slots from at x next) ∙ append_none (passed m from) in
+      let before : passed_items new (at + 1) ≡ passed_items m from ++ [] = rw is (emptied_before m.slots from at x next) ∙ append_none (passed_items m from) in
       completes_on (Rewrites step put) start f g all m new from (at + 1) x [] (to_come m (at + 1)) next.rest
       (rw is (same_behind m.slots at)) before (λ rest h. (None, g, rest, called, refl, h))
 

@@ -6,15 +6,15 @@ use Rattle.std.proofs.lemmas.List.{get_or_past, get_or-set_other, get_or-set_sam
 use Rattle.std.proofs.lemmas.List.Elements.{All-head, All-tail}
 use Rattle.std.proofs.lemmas.Map.Keys.{IsDistinct-head, IsDistinct-tail}
 use Rattle.std.proofs.lemmas.List.Sorted.{IsPermutation-refl, IsPermutation-sym, IsPermutation-trans, IsPermutation-append, IsPermutation-middle, length_permutation}
-use Rattle.iddqd_store.specs.Bag.{Ranks, AreLawful, IsSound, clash, order, over}
+use Rattle.iddqd_store.specs.Bag.{Ranks, AreLawful, IsSound, conflicts_of, conflicting, with_item}
 use Rattle.iddqd_store.specs.Map.{Map, PutsAt, bag}
 use Rattle.iddqd_store.specs.Rank.Index.{HasHash, IsIndex, AreIndexes, IsIndexed, pair_of}
 use Rattle.iddqd_store.specs.Rank.{IsPaired, IsHashed, FoundByHash}
 use Rattle.iddqd_store.specs.Slots.{IsLive, contents, get, members}
 use Rattle.iddqd_store.specs.Slots.Found.{StandAt, items_at}
-use Rattle.iddqd_store.proofs.BagLemmas.Over.{clash-taken}
+use Rattle.iddqd_store.proofs.BagLemmas.Over.{conflicts_of-taken}
 use Rattle.iddqd_store.proofs.MapLemmas.{free_sound, sound_left}
-use Rattle.iddqd_store.proofs.MapLemmas.Overwriting.{PutsAt-over}
+use Rattle.iddqd_store.proofs.MapLemmas.Overwriting.{PutsAt-with_item}
 use Rattle.iddqd_store.proofs.Plain.{other_number}
 use Rattle.iddqd_store.proofs.RankLemmas.Index.{IsIndex-insert, IsIndex-remove, IsIndex-reorder, pair_in}
 use Rattle.iddqd_store.proofs.SlotLemmas.Chain.{members-take, members-set}
@@ -109,13 +109,13 @@ module _ {T : Type 0} where
         )
 
     sound_displaced : (ranks : Ranks T) → AreLawful ranks → IsSound ranks (contents slots)
-        → clash ranks (contents (without slots (at ∷ numbers))) y ≡ [] → IsSound ranks (contents (slice_set (without slots numbers) at (Some y)))
+        → conflicts_of ranks (contents (without slots (at ∷ numbers))) y ≡ [] → IsSound ranks (contents (slice_set (without slots numbers) at (Some y)))
     sound_displaced ranks laws sound free =
         free_sound ranks laws (without slots (at ∷ numbers)) (slice_set (without slots numbers) at (Some y))
         at y (sound_left ranks laws (contents slots) (one ∷ xs) _ sound (contents-without slots (at ∷ numbers) (one ∷ xs) leave)) free (members-set (without slots numbers) at one y leave.0)
 
     pub IsIndexed-displaced : {ranks : Ranks T} {hashes : List (T → ℕ)} {tables others : List (List (ℕ × ℕ))} → AreLawful ranks
-        → IsIndexed ranks hashes slots tables → clash ranks (contents (without slots (at ∷ numbers))) y
+        → IsIndexed ranks hashes slots tables → conflicts_of ranks (contents (without slots (at ∷ numbers))) y
         ≡ [] → AreDisplaced (leaving (at ∷ numbers) (one ∷ xs)) y at hashes tables others → IsIndexed ranks hashes (slice_set (without slots numbers) at (Some y)) others
     IsIndexed-displaced {ranks} {hashes} {tables} {others} laws indexed free displaced = record {
       sound = sound_displaced ranks laws indexed.sound free;
@@ -129,7 +129,7 @@ module _ {T : Type 0} where
         get_or-set_same (without slots numbers) at (Some y) None within
 
     pub PutsAt-displaced : {S : Type 0} {ranks : Ranks T} {old new : Map T S} → AreLawful ranks → old.slots ≡ slots → IsSound ranks (contents slots)
-        → clash ranks (contents (without slots (at ∷ numbers))) y ≡ [] → length (contents slots) ≤ old.capacity
+        → conflicts_of ranks (contents (without slots (at ∷ numbers))) y ≡ [] → length (contents slots) ≤ old.capacity
         → new.slots ≡ slice_set (without slots numbers) at (Some y) → new.capacity ≡ old.capacity
         → new.builder ≡ old.builder → PutsAt ranks old at y (y ∷ contents (without slots (at ∷ numbers))) new
     PutsAt-displaced {ranks = ranks} {old = old} {new = new} laws were sound free fits are room builder =
@@ -147,7 +147,7 @@ module _ {T : Type 0} where
 
   -- an item that nothing conflicts with is put into a free slot
   pub PutsAt-inserted : {S : Type 0} {ranks : Ranks T} {old new : Map T S} (at : ℕ) (x : T) → AreLawful ranks → IsSound ranks (bag old)
-      → clash ranks (bag old) x ≡ [] → IsPermutation (members new.slots) ((at, x) ∷ members old.slots) → get new.slots at ≡ Some x
+      → conflicts_of ranks (bag old) x ≡ [] → IsPermutation (members new.slots) ((at, x) ∷ members old.slots) → get new.slots at ≡ Some x
       → length (bag old) < old.capacity → new.capacity ≡ old.capacity → new.builder ≡ old.builder → PutsAt ranks old at x (x ∷ bag old) new
   PutsAt-inserted {ranks = ranks} {old = old} {new = new} at x laws sound free added here fits room builder =
       let items = contents-moves new.slots old.slots at x added in
@@ -176,15 +176,15 @@ module _ {T : Type 0} where
       by_slot None is some rest = absurd (cc)
       by_slot (Some x) is some rest = rw is (get-without slots numbers at (IsDistinct-head nat_eq at numbers apart) ∙ is, rest)
 
-  module _ {S : Type 0} (ranks : Ranks T) (old : Map T S) (x : T) (numbers : List ℕ) (stand : StandAt old.slots numbers (order ranks (bag old) x)) where
-    out : IsPermutation (bag old) (order ranks (bag old) x ++ contents (without old.slots numbers))
+  module _ {S : Type 0} (ranks : Ranks T) (old : Map T S) (x : T) (numbers : List ℕ) (stand : StandAt old.slots numbers (conflicting ranks (bag old) x)) where
+    out : IsPermutation (bag old) (conflicting ranks (bag old) x ++ contents (without old.slots numbers))
     out = subst (λ l. IsPermutation (bag old) (l ++ contents (without old.slots numbers))) stand.items
         (contents-without old.slots numbers (items_at old.slots numbers) (standing old.slots numbers stand.live stand.apart))
 
     -- without the items that conflict with it, nothing conflicts with an item
-    pub gives_way : clash ranks (contents (without old.slots numbers)) x ≡ []
-    gives_way = clash-taken ranks (bag old) _ x out
+    pub gives_way : conflicts_of ranks (contents (without old.slots numbers)) x ≡ []
+    gives_way = conflicts_of-taken ranks (bag old) _ x out
 
     -- an item that is put in their place is put over the bag
-    pub PutsAt-stand : {new : Map T S} {slot : ℕ} → PutsAt ranks old slot x (x ∷ contents (without old.slots numbers)) new → PutsAt ranks old slot x (over ranks (bag old) x) new
-    PutsAt-stand {new} {slot} put = PutsAt-over ranks old new x slot _ out put
+    pub PutsAt-stand : {new : Map T S} {slot : ℕ} → PutsAt ranks old slot x (x ∷ contents (without old.slots numbers)) new → PutsAt ranks old slot x (with_item ranks (bag old) x) new
+    PutsAt-stand {new} {slot} put = PutsAt-with_item ranks old new x slot _ out put

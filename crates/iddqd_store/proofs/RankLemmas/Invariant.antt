@@ -2,7 +2,7 @@
 use Rattle.std.specs.Prelude.{◌≡◌, ℕ, Bool, true, List, [], ◌∷◌, ◌++◌, map, Option, Contains, IsPermutation, ⊤}
 use Rattle.std.specs.List.{AllZip}
 use Rattle.std.proofs.Common.{refl}
-use Rattle.iddqd_store.specs.Bag.{Ranks, AreLawful, conflicts, clash, agrees}
+use Rattle.iddqd_store.specs.Bag.{Ranks, AreLawful, do_conflict, conflicts_of, agrees}
 use Rattle.iddqd_store.specs.Rank.Index.{AreIndexes, IsIndexed}
 use Rattle.iddqd_store.specs.Rank.{IsSearchable}
 use Rattle.iddqd_store.specs.Slots.{IsSlotClone, members, contents}
@@ -19,7 +19,7 @@ module _ {T : Type 0} where
 
   -- no items, and no pairs in any table
   pub IsIndexed-empty : (ranks : Ranks T) (hashes : List (T → ℕ)) → IsIndexed ranks hashes [] (map (λ _. []) hashes)
-  IsIndexed-empty ranks hashes = record { sound = IsDistinct-nil (conflicts ranks); indexes = AreIndexes-empty hashes }
+  IsIndexed-empty ranks hashes = record { sound = IsDistinct-nil (do_conflict ranks); indexes = AreIndexes-empty hashes }
 
   AreIndexes-reorder : (hashes : List (T → ℕ)) (slots : List (Option T)) (tables others : List (List (ℕ × ℕ))) → AreIndexes hashes slots tables
       → AllZip IsPermutation tables others → AreIndexes hashes slots others
@@ -56,7 +56,7 @@ module _ {T : Type 0} where
 
   -- an item that nothing conflicts with is put into a slot and into each table
   pub IsIndexed-insert : {ranks : Ranks T} {hashes : List (T → ℕ)} {old new : List (Option T)} {tables others : List (List (ℕ × ℕ))} {at : ℕ} (x : T)
-      → AreLawful ranks → IsIndexed ranks hashes old tables → clash ranks (contents old) x ≡ [] → IsPermutation (members new) ((at, x) ∷ members old)
+      → AreLawful ranks → IsIndexed ranks hashes old tables → conflicts_of ranks (contents old) x ≡ [] → IsPermutation (members new) ((at, x) ∷ members old)
       → AreEntered x at hashes tables others → IsIndexed ranks hashes new others
   IsIndexed-insert {ranks = ranks} {hashes = hashes} {old = old} {new = new} {tables = tables} {others = others} {at = at} x laws indexed free added inserted = record {
     sound = free_sound ranks laws old new at x indexed.sound free added;

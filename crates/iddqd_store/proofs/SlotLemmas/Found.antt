@@ -5,12 +5,12 @@ use Rattle.std.specs.Option.{option_to_list, option_and_then, IfSome}
 use Rattle.std.proofs.Common.{IsSome, inl, inr, refl, sym, ap, subst, ◌∙◌, arith, append-nil, append_assoc}
 use Rattle.std.proofs.lemmas.Bool.{false≢true, or_right, eqb-true, eq-eqb}
 use Rattle.std.proofs.lemmas.List.Sorted.{Contains-permutation, IsPermutation-sym, length_permutation}
-use Rattle.iddqd_store.specs.Bag.{some_of, listing, without, Ranks, order, clash}
+use Rattle.iddqd_store.specs.Bag.{some_of, listing, remainder, Ranks, conflicting, conflicts_of}
 use Rattle.iddqd_store.specs.Slots.{get, IsLive, contents}
 use Rattle.iddqd_store.specs.Slots.Found.{items_at, contains, with_found}
 use Rattle.std.proofs.lemmas.List.Elements.{All-head, filter_agree}
 use Rattle.iddqd_store.proofs.BagLemmas.Exchanges.{split}
-use Rattle.iddqd_store.proofs.BagLemmas.Sound.{each_passes, Contains-filter, filter_twice, filter_swap, IsPermutation-listing, IsPermutation-order, same_from_short}
+use Rattle.iddqd_store.proofs.BagLemmas.Sound.{each_passes, Contains-filter, filter_twice, filter_swap, IsPermutation-listing, IsPermutation-conflicting, same_from_short}
 use Rattle.iddqd_store.proofs.RankLemmas.Index.{Contains-cons, Contains-cons_cases, Contains-here, same_slot}
 use Rattle.iddqd_store.proofs.SlotLemmas.Contents.{content_at}
 use Rattle.iddqd_store.proofs.RankLemmas.Search.{each_at}
@@ -24,18 +24,18 @@ module _ {T : Type 0} where
   filter_everything [] = refl
   filter_everything (x ∷ xs) = ap (λ l. x ∷ l) (filter_everything xs)
 
-  without_more : (test : T → Bool) (tests : List (T → Bool)) (xs : List T) → without tests (filter (λ x. not (test x)) xs) ≡ without (test ∷ tests) xs
+  without_more : (test : T → Bool) (tests : List (T → Bool)) (xs : List T) → remainder tests (filter (λ x. not (test x)) xs) ≡ remainder (test ∷ tests) xs
   without_more test tests xs =
       filter_twice (λ x. not (test x)) (λ x. not (some_of tests x)) xs
       ∙ filter_agree (λ x. not (test x) && not (some_of tests x)) (λ x. not (test x || some_of tests x)) (λ x. not_either (test x) (some_of tests x)) xs
 
   -- one more test lists those of the rest that pass it
-  pub listing-push : (tests : List (T → Bool)) (test : T → Bool) (xs : List T) → listing (tests ++ test ∷ []) xs ≡ listing tests xs ++ filter test (without tests xs)
+  pub listing-push : (tests : List (T → Bool)) (test : T → Bool) (xs : List T) → listing (tests ++ test ∷ []) xs ≡ listing tests xs ++ filter test (remainder tests xs)
   listing-push [] test xs = append-nil _ ∙ ap (filter test) (sym (filter_everything xs))
   listing-push (first ∷ tests) test xs =
       let rest : List T = filter (λ x. not (first x)) xs in
       ap (λ l. filter first xs ++ l) (listing-push tests test rest ∙ ap (λ l. listing tests rest ++ filter test l) (without_more first tests xs))
-      ∙ sym (append_assoc (filter first xs) (listing tests rest) (filter test (without (first ∷ tests) xs)))
+      ∙ sym (append_assoc (filter first xs) (listing tests rest) (filter test (remainder (first ∷ tests) xs)))
 
   -- each member of a listing passes some test
   pub some_passes : (tests : List (T → Bool)) (xs : List T) (y : T) → Contains (listing tests xs) y → some_of tests y ≡ true
@@ -99,7 +99,7 @@ module _ {T : Type 0} where
       → option_to_list (option_and_then (get slots) found) ≡ filter test (contents slots)
       → items_at slots (with_found numbers found) ≡ listing (tests ++ test ∷ []) (contents slots)
   listing_found agree slots tests test numbers None itself_alike symm apart before live is =
-      let none : filter test (without tests (contents slots)) ≡ [] = filter_swap test (λ x. not (some_of tests x)) (contents slots) ∙ ap (filter (λ x. not (some_of tests x))) (sym is) in
+      let none : filter test (remainder tests (contents slots)) ≡ [] = filter_swap test (λ x. not (some_of tests x)) (contents slots) ∙ ap (filter (λ x. not (some_of tests x))) (sym is) in
       before ∙ sym (append-nil _) ∙ ap (λ l. listing tests (contents slots) ++ l) (sym none) ∙ sym (listing-push tests test (contents slots))
   listing_found agree slots tests test numbers (Some b) itself_alike symm apart before live is = by_slot (get slots b) refl live is
     where
@@ -108,7 +108,7 @@ module _ {T : Type 0} where
       by_slot None at some named = absurd (cc)
       by_slot (Some y) at some named =
           let bag : List T = contents slots in
-          let rest : filter test (without tests bag) ≡ filter (λ x. not (some_of tests x)) (y ∷ []) =
+          let rest : filter test (remainder tests bag) ≡ filter (λ x. not (some_of tests x)) (y ∷ []) =
           filter_swap test (λ x. not (some_of tests x)) bag ∙ ap (filter (λ x. not (some_of tests x))) (sym named) in
           let goal : listing (tests ++ test ∷ []) bag ≡ listing tests bag ++ filter (λ x. not (some_of tests x)) (y ∷ []) = listing-push tests test bag ∙ ap (λ l. listing tests bag ++ l) rest in
           split (λ t. items_at slots (cond t numbers (numbers ++ b ∷ [])) ≡ listing (tests ++ test ∷ []) bag) (contains numbers b)
@@ -127,20 +127,20 @@ module _ {T : Type 0} where
 
 module _ {T : Type 0} where
   -- if no conflicting slot is found, nothing conflicts
-  pub clash_none : (ranks : Ranks T) (slots : List (Option T)) (x : T) (numbers : List ℕ) → items_at slots numbers ≡ order ranks (contents slots) x
-      → length numbers ≡ 0 → clash ranks (contents slots) x ≡ []
+  pub clash_none : (ranks : Ranks T) (slots : List (Option T)) (x : T) (numbers : List ℕ) → items_at slots numbers ≡ conflicting ranks (contents slots) x
+      → length numbers ≡ 0 → conflicts_of ranks (contents slots) x ≡ []
   clash_none ranks slots x [] is short = sym (same_from_short [] _
-      (subst (λ l. IsPermutation l (clash ranks (contents slots) x)) (sym is) (IsPermutation-order ranks (contents slots) x)) (omega arith))
+      (subst (λ l. IsPermutation l (conflicts_of ranks (contents slots) x)) (sym is) (IsPermutation-conflicting ranks (contents slots) x)) (omega arith))
   clash_none ranks slots x (a ∷ numbers) is short = absurd (omega arith)
 
   -- if a slot is found, something conflicts
-  pub clash_some : (ranks : Ranks T) (slots : List (Option T)) (x : T) (numbers : List ℕ) → items_at slots numbers ≡ order ranks (contents slots) x
-      → All (IsLive slots) numbers → length numbers ≢ 0 → clash ranks (contents slots) x ≢ []
+  pub clash_some : (ranks : Ranks T) (slots : List (Option T)) (x : T) (numbers : List ℕ) → items_at slots numbers ≡ conflicting ranks (contents slots) x
+      → All (IsLive slots) numbers → length numbers ≢ 0 → conflicts_of ranks (contents slots) x ≢ []
   clash_some ranks slots x [] is live some none = some refl
   clash_some ranks slots x (a ∷ numbers) is live some none = by_slot (get slots a) refl (All-head (IsLive slots) a numbers live)
     where
       same : IsPermutation (items_at slots (a ∷ numbers)) []
-      same = subst (λ l. IsPermutation (items_at slots (a ∷ numbers)) l) none (subst (λ l. IsPermutation l (clash ranks (contents slots) x)) (sym is) (IsPermutation-order ranks (contents slots) x))
+      same = subst (λ l. IsPermutation (items_at slots (a ∷ numbers)) l) none (subst (λ l. IsPermutation l (conflicts_of ranks (contents slots) x)) (sym is) (IsPermutation-conflicting ranks (contents slots) x))
 
       by_slot : (o : Option T) → get slots a ≡ o → IsSome o → ⊥
       by_slot None at some = absurd (cc)

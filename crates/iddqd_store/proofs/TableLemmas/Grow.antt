@@ -7,7 +7,7 @@ use Rattle.iddqd_store.specs.Table.{IsTable, IsFirstEmpty}
 use Rattle.iddqd_store.specs.Table.Limit.{IsSize}
 use Rattle.iddqd_store.specs.Slots.{contents}
 use Rattle.iddqd_store.specs.Table.Ring.{cell}
-use Rattle.iddqd_store.proofs.TableLemmas.Limits.{held-empty, table_empty}
+use Rattle.iddqd_store.proofs.TableLemmas.Limits.{held_items-empty, table_empty}
 use Rattle.iddqd_store.proofs.TableLemmas.Write.{held_front, held_more, table_put}
 use Rattle.iddqd_store.proofs.SlotLemmas.Contents.{contents-put}
 
@@ -17,7 +17,7 @@ pub record HasFront (old new : List (Option (ℕ × ℕ))) (i : ℕ) : Type 0 wh
   pub pairs : IsPermutation (contents (take i old)) (contents new)
 
 pub front_none : (old : List (Option (ℕ × ℕ))) (count : ℕ) → IsSize count → HasFront old (replicate count None) 0
-front_none old count size = record { table = table_empty count size; pairs = rw held-empty (IsPermutation-refl _) }
+front_none old count size = record { table = table_empty count size; pairs = rw held_items-empty (IsPermutation-refl _) }
 
 -- a pair is copied into the first empty cell from its home on
 pub front_full : (old new : List (Option (ℕ × ℕ))) (i at hash index : ℕ) → i < length old → cell old i ≡ Some (hash, index)

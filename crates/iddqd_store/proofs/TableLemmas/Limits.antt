@@ -31,9 +31,9 @@ least_found m k n pos e enough before =
           is;
     }
 
-pub held-empty : {X : Type 0} (n : ℕ) → contents {T = X} (replicate n None) ≡ []
-held-empty zero = refl
-held-empty (suc n) = held-empty n
+pub held_items-empty : {X : Type 0} (n : ℕ) → contents {T = X} (replicate n None) ≡ []
+held_items-empty zero = refl
+held_items-empty (suc n) = held_items-empty n
 
 pub cell-empty : {X : Type 0} (n k : ℕ) → cell {X = X} (replicate n None) k ≡ None
 cell-empty zero k = refl
@@ -43,12 +43,12 @@ cell-empty (suc n) (suc k) = cell-empty n k
 pub table_empty : (n : ℕ) → IsSize n → IsTable (replicate n None)
 table_empty n size = record {
   size = rw length-replicate size;
-  fits = rw held-empty (omega arith);
+  fits = rw held_items-empty (omega arith);
   reached = λ q x l is i li way z. let e : cell {X = ℕ × ℕ} (replicate n None) q ≡ None = cell-empty n q in cc (e, is);
 }
 
 pub length_held_empty : (n : ℕ) → 0 ≡ length (contents {T = ℕ × ℕ} (replicate n None))
-length_held_empty n = sym (ap length (held-empty {X = ℕ × ℕ} n))
+length_held_empty n = sym (ap length (held_items-empty {X = ℕ × ℕ} n))
 
 pub some_not_none : {X : Type 0} (o : Option X) → IsSome o ↔ (o ≢ None)
 some_not_none None = (λ s. search rules, λ n. absurd (n refl))

@@ -65,10 +65,10 @@ abbrev pub weight : {X : Type 0} → (X → Bool) → Option X → ℕ
 weight q None = 0
 weight q (Some x) = cond (q x) 1 0
 
-pub count-held : {X : Type 0} (q : X → Bool) (cs : List (Option X)) → count_by q (contents cs) ≡ sum_by (weight q) cs
-count-held q [] = refl
-count-held q (None ∷ cs) = count-held q cs ∙ sym (sum_by-cons (weight q) None cs ∙ omega arith)
-count-held q (Some x ∷ cs) = sum_by-cons (λ x. cond (q x) 1 0) x (contents cs) ∙ (ap (λ (m : ℕ). cond (q x) 1 0 + m) (count-held q cs) ∙ sym (sum_by-cons (weight q) (Some x) cs))
+pub count-held_items : {X : Type 0} (q : X → Bool) (cs : List (Option X)) → count_by q (contents cs) ≡ sum_by (weight q) cs
+count-held_items q [] = refl
+count-held_items q (None ∷ cs) = count-held_items q cs ∙ sym (sum_by-cons (weight q) None cs ∙ omega arith)
+count-held_items q (Some x ∷ cs) = sum_by-cons (λ x. cond (q x) 1 0) x (contents cs) ∙ (ap (λ (m : ℕ). cond (q x) 1 0 + m) (count-held_items q cs) ∙ sym (sum_by-cons (weight q) (Some x) cs))
 
 IsPermutation-back : {X : Type 0} (cs : List (Option X)) (p : ℕ) → IsPermutation cs (back cs p)
 IsPermutation-back cs p =
@@ -76,4 +76,4 @@ IsPermutation-back cs p =
     (IsPermutation-append _ _ _ _ (IsPermutation-reverse (take (p + 1) cs)) (IsPermutation-reverse (drop (p + 1) cs)))
 
 pub count-back : {X : Type 0} (q : X → Bool) (cs : List (Option X)) (p : ℕ) → count_by q (contents (back cs p)) ≡ count_by q (contents cs)
-count-back q cs p = count-held q (back cs p) ∙ (sum_by-IsPermutation (weight q) cs (back cs p) (IsPermutation-back cs p) ∙ sym (count-held q cs))
+count-back q cs p = count-held_items q (back cs p) ∙ (sum_by-IsPermutation (weight q) cs (back cs p) (IsPermutation-back cs p) ∙ sym (count-held_items q cs))

@@ -13,7 +13,7 @@ use Rattle.iddqd_store.specs.Slots.{contents}
 use Rattle.iddqd_store.specs.Table.Ring.{gap, stretch, cell}
 use Rattle.iddqd_store.specs.Table.{hashes, has_hash, IsTable, IsFirstEmpty, IsWayTo}
 use Rattle.iddqd_store.proofs.Plain.{by_order}
-use Rattle.iddqd_store.proofs.TableLemmas.Ring.{weight, count-held, gap_below}
+use Rattle.iddqd_store.proofs.TableLemmas.Ring.{weight, count-held_items, gap_below}
 use Rattle.iddqd_store.proofs.TableLemmas.Stretch.{place, place_below, gap_place, place_gap, place_more, stretch_is, stretch_at_least}
 use Rattle.iddqd_store.proofs.SlotLemmas.Contents.{content_at}
 
@@ -135,7 +135,7 @@ met_within q cs a s =
     let p : IsPermutation (drop a cs ++ take a cs) (take a cs ++ drop a cs) = IsPermutation-append_comm (drop a cs) (take a cs) in
     let e : sum_by (weight q) (take a cs ++ drop a cs) ≡ sum_by (weight q) (ahead cs a) = sum_by-IsPermutation (weight q) _ _ p in
     let f : sum_by (weight q) cs ≡ sum_by (weight q) (ahead cs a) = subst (λ (xs : List (Option _)). sum_by (weight q) xs ≡ sum_by (weight q) (ahead cs a)) (take-append-drop a cs) e in
-    let h : count_by q (contents cs) ≡ sum_by (weight q) cs = count-held q cs in
+    let h : count_by q (contents cs) ≡ sum_by (weight q) cs = count-held_items q cs in
     let t : met q cs a s ≤ sum_by (weight q) (ahead cs a) = sum_by-take-le (weight q) (ahead cs a) s in
     omega arith
 

@@ -13,7 +13,7 @@ use Rattle.iddqd_store.proofs.Plain.{by_order}
 use Rattle.iddqd_store.proofs.TableLemmas.Write.{reached_put}
 use Rattle.iddqd_store.proofs.SlotLemmas.Contents.{contents-put}
 use Rattle.iddqd_store.proofs.TableLemmas.Line.{cases_option}
-use Rattle.iddqd_store.proofs.TableLemmas.Limits.{held-empty, cell-empty}
+use Rattle.iddqd_store.proofs.TableLemmas.Limits.{held_items-empty, cell-empty}
 use Rattle.iddqd_store.proofs.TableLemmas.Stretch.{place, place_below, place_gap, gap_place, is_full_decides, length-round, get_or-round, stretch_permutation}
 use Rattle.iddqd_store.proofs.TableLemmas.Full.{occupied_exactly_full, first_empty}
 use Rattle.iddqd_store.proofs.TableLemmas.Ring.{gap_below}
@@ -87,7 +87,7 @@ laid n [] l = record {
   row = replicate n None;
   len = length-replicate n None;
   reached = λ q x lq is i li way z. let e : cell {X = ℕ} (replicate n None) q ≡ None = cell-empty n q in cc (e, is);
-  pairs = rw held-empty (IsPermutation-refl []);
+  pairs = rw held_items-empty (IsPermutation-refl []);
 }
 laid n (h ∷ hashes) l =
     let r : Laid n hashes = laid n hashes (omega arith) in

@@ -2,7 +2,7 @@
 use Rattle.std.specs.Prelude.{◌≡◌, ◌<◌, ℕ, Bool, true, false, List, [], ◌∷◌, ◌++◌, Option, IfSome, IfNone}
 use Rattle.std.specs.Option.{option_to_list}
 use Rattle.iddqd_store.specs.Map.{Map}
-use Rattle.iddqd_store.specs.Map.Walk.{passed, to_come}
+use Rattle.iddqd_store.specs.Map.Walk.{passed_items, to_come}
 
 module _ {F T : Type 0} (step : F → T → Bool → F → Type 0) where
   -- The closure `f` was called once with each item of the list in turn, returned `false` each time, and is in the
@@ -24,7 +24,7 @@ module _ {F T S : Type 0} (step : F → T → Bool → F → Type 0) where
     pub rejects : Rejects step f rejected state
     pub accepts : IfSome o (λ x. (g : F) × step state x true g)
     pub comes : to_come m from ≡ rejected ++ (option_to_list o ++ to_come n to)
-    pub before : passed n to ≡ passed m from ++ rejected
+    pub before : passed_items n to ≡ passed_items m from ++ rejected
     pub none_left : IfNone o (to_come n to ≡ [])
     pub onward : IfSome o (λ _. from < to)
 
@@ -35,6 +35,6 @@ module _ {T S : Type 0} where
   -- are after it.
   pub record PopsFrom (m : Map T S) (from : ℕ) (o : Option T) (n : Map T S) (to : ℕ) : Type 0 where
     pub comes : to_come m from ≡ option_to_list o ++ to_come n to
-    pub before : passed n to ≡ passed m from
+    pub before : passed_items n to ≡ passed_items m from
     pub none_left : IfNone o (to_come n to ≡ [])
     pub onward : IfSome o (λ _. from < to)

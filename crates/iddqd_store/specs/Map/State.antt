@@ -1,6 +1,6 @@
 -- A map as a state, and how a state is extended by a list of items.
 use Rattle.std.specs.Prelude.{◌≤◌, ℕ, List, [], length, take, IsPermutation}
-use Rattle.iddqd_store.specs.Bag.{Ranks, overs}
+use Rattle.iddqd_store.specs.Bag.{Ranks, with_items}
 use Rattle.iddqd_store.specs.Map.{Map, bag}
 
 -- `State` is the state of a map: its bag, and its capacity.
@@ -23,12 +23,12 @@ module _ {T : Type 0} where
   -- The items of the list are inserted one by one with `over`, and after each of them the items fit the capacity.
   -- Example: With the list (4, 40), (4, 50) the bag needs the capacity 4.
   abbrev pub FitsOnTheWay : Ranks T → List T → List T → ℕ → Type 0
-  FitsOnTheWay ranks bag xs capacity = (n : ℕ) → length (overs ranks bag (take n xs)) ≤ capacity
+  FitsOnTheWay ranks bag xs capacity = (n : ℕ) → length (with_items ranks bag (take n xs)) ≤ capacity
 
   -- The items of the list were inserted one by one, each with `over`. The capacity is no lower, and was enough at each
   -- step.
   -- Example: With the list (1, 20), (3, 40) the bag becomes (3, 40), (1, 20).
   abbrev pub ExtendsTo : Ranks T → State T → List T → State T → Type 0
   ExtendsTo ranks old xs new =
-      IsPermutation new.items (overs ranks old.items xs) × FitsOnTheWay ranks old.items xs new.capacity
+      IsPermutation new.items (with_items ranks old.items xs) × FitsOnTheWay ranks old.items xs new.capacity
       × (old.capacity ≤ new.capacity)

@@ -5,10 +5,10 @@ use Rattle.iddqd_store.specs.Map.{Map}
 use Rattle.iddqd_store.specs.Slots.{contents}
 
 module _ {T S : Type 0} where
-  -- `passed` lists the items in the slots before this place.
+  -- `passed_items` lists the items in the slots before this place.
   -- Example: For the slots `Some a`, `None`, `Some b` and the place 2 it is a.
-  abbrev pub passed : Map T S → ℕ → List T
-  passed m place = contents (take place m.slots)
+  abbrev pub passed_items : Map T S → ℕ → List T
+  passed_items m place = contents (take place m.slots)
 
   -- `to_come` lists the items in the slots from this place on.
   -- Example: For the slots `Some a`, `None`, `Some b` and the place 1 it is b.
@@ -20,7 +20,7 @@ module _ {T S : Type 0} where
   -- Example: In the slots `Some a`, `None`, `Some b` an iteration passes b from the place 1 to the place 3.
   pub record Passes (m : Map T S) (from : ℕ) (x : T) (written : (T → T) → Map T S) (to : ℕ) : Type 0 where
     pub comes : to_come m from ≡ x ∷ to_come m to
-    pub before : (f : T → T) → passed (written f) to ≡ passed m from ++ f x ∷ []
+    pub before : (f : T → T) → passed_items (written f) to ≡ passed_items m from ++ f x ∷ []
     pub behind : (f : T → T) → to_come (written f) to ≡ to_come m to
 
 module _ {T : Type 0} where

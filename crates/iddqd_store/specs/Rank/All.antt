@@ -1,8 +1,8 @@
 -- What holds at all ranks: lists that have one element for each rank.
 use Rattle.std.specs.Prelude.{◌≡◌, ◌≤◌, ◌+◌, ℕ, List, [], ◌∷◌, length, Option, None, map, ⊤}
 use Rattle.std.specs.List.{AllByRecursion, AllZip}
-use Rattle.iddqd_store.specs.Bag.{Ranks, crowd, like}
-use Rattle.iddqd_store.specs.Map.{Map, IsBlockedAt}
+use Rattle.iddqd_store.specs.Bag.{Ranks, crowd, tests_of}
+use Rattle.iddqd_store.specs.Map.{Map, ConflictsAt}
 use Rattle.iddqd_store.specs.Rank.{Costs, IsHashed, IsVacantFor, SearchCosts, FoundByHash, walks_within}
 use Rattle.iddqd_store.specs.Slots.Found.{AreFound, each_once}
 use Rattle.iddqd_store.specs.declared.index_table.searched.Searched.{Searched}
@@ -24,7 +24,8 @@ module _ {T : Type 0} where
   abbrev pub hashes_of : List (T → ℕ) → T → List ℕ
   hashes_of hashes x = map (λ hash. hash x) hashes
 
-  -- For each rank, the pair of the item goes into this cell of its table. No public clause cites it.
+  -- For each rank, the pair of the item goes into this cell of its table. No clause of a map cites it.
+  -- Example: For two ranks there are two cells.
   abbrev pub ArePlacesOf : List (T → ℕ) → List T → T → List Spot → Type 0
   ArePlacesOf hashes bag x spots = AreVacantFor hashes bag (hashes_of hashes x) spots
 
@@ -90,9 +91,9 @@ slots_found (Vacant spots) = map (λ _. None) spots
 -- Something conflicts with `x`, and searches by the hashes of its keys, one at each rank, found these slots, which are
 -- those of what does. No public clause cites it.
 -- Example: If `x` has the first key of the item in the slot 2, and no item has its second key, they found `Some 2`, `None`.
-pub record IsBlockedBy {T S : Type 0} (ranks : Ranks T) (rank_hashes : List (T → ℕ)) (m : Map T S) (x : T)
+pub record FindsConflicts {T S : Type 0} (ranks : Ranks T) (rank_hashes : List (T → ℕ)) (m : Map T S) (x : T)
     (searched : List FoundByHash) : Type 0 where
-  pub blocked : IsBlockedAt ranks m x (each_once (map (λ at. at.slot) searched))
-  pub found : AreFound (like ranks x) m.slots (map (λ at. at.slot) searched)
+  pub conflict : ConflictsAt ranks m x (each_once (map (λ at. at.slot) searched))
+  pub found : AreFound (tests_of ranks x) m.slots (map (λ at. at.slot) searched)
   pub hashes : HaveHashes (hashes_of rank_hashes x) searched
   pub hashed : AreHashed rank_hashes m.slots searched

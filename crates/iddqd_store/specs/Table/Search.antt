@@ -29,6 +29,7 @@ pub record CostsByHash {A : Type 0} (table : Table) (hash : ℕ) (answer : Optio
 
 -- A removal by a search asks about no more pairs than have the hash, and probes each cell from the home of the hash on
 -- up to the first empty one once, whatever it finds.
+-- Example: Among 8 cells with the hashes 2, 2 a removal by the hash 2 asks at most twice, and probes 3 cells.
 pub record RemovalCosts (table : Table) (hash asks asks_then before after : ℕ) : Type 0 where
   pub asked : asks_then ≤ asks + count_by (has_hash hash) table.pairs
   pub no_cells : length table.row ≡ 0 → after ≡ before

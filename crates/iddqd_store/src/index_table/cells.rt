@@ -1,6 +1,6 @@
 //! The cells of a table. One function reads what a cell has, and counts that on the meter that it takes. `copy_cell`
-//! copies a cell, and `clone` all cells, without reading what they have. The script `tests/metered_cells` lists each
-//! line that names the row.
+//! copies a cell, and `clone` all cells, without reading what they have. The script `metered_cells` lists each line that
+//! names the row.
 ghost use Rattle.std.specs.Prelude.{◌≡◌, ℕ, ◌+◌, ◌^◌, ◌<◌, List, [], Option, None, Some, length, slice_set, replicate, IfOk};
 ghost use Rattle.iddqd_store.specs.Table.Cell.{pair_of, hash_of, number_of};
 ghost use Rattle.iddqd_store.specs.Table.Ring.{cell};

@@ -47,7 +47,7 @@ impl Model for Meter {
 }
 
 impl Meter {
-    /// Makes a meter at 0. A function that takes a meter makes none (`tests/metered_cells`).
+    /// Makes a meter at 0. A function that takes a meter makes none (the script `metered_cells`).
     pub fn new() -> Meter
         ensures { result ≡ 0 }
     {
@@ -85,7 +85,7 @@ impl Model for Costs {
 }
 
 impl Costs {
-    /// Makes two meters at 0. A function that takes costs makes none (`tests/metered_cells`).
+    /// Makes two meters at 0. A function that takes costs makes none (the script `metered_cells`).
     pub fn new() -> Costs
         ensures { result ≡ record { asked = 0; probed = 0 } }
     {

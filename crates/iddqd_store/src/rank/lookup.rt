@@ -19,6 +19,8 @@ use crate::query::Query;
 use std::hash::{BuildHasher, Hash};
 use std::marker::{Model, PhantomData};
 
+mod differing;
+
 /// The slots of a map and the table of one rank, borrowed: what a search by that rank reads.
 #[derive(Drop)]
 pub struct Lookup<'a, T, R: KeyOf<T>, S: BuildHasher> {

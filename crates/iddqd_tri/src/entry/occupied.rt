@@ -5,14 +5,14 @@ ghost use Rattle.std.specs.Prelude.{◌≡◌, None, Some, not, filter, map, IfO
 ghost use Rattle.std.specs.Option.{option_copied_mut, option_to_list};
 ghost use Rattle.std.specs.Borrow.{sem};
 ghost use Rattle.std.specs.Fn.{CalledAt};
-ghost use Rattle.iddqd_store.specs.Bag.{IsOnly, differ, entry, is_unique, listing, swap};
+ghost use Rattle.iddqd_store.specs.Bag.{IsOnly, first_mismatch, entry, is_unique, listing, swap};
 ghost use Rattle.iddqd_store.specs.Bag.Calling.{TakesInTurn};
 ghost use Rattle.iddqd_store.specs.Bag.Storing.{Stores};
 ghost use Rattle.iddqd_store.specs.Map.{bag, Loses};
 ghost use Rattle.iddqd_tri.specs.Entries.{FindsSame, HasFound, HoldsFound, PutsOver, entry_tests, entry_with, lends_entry_data, lends_held};
 ghost use Rattle.iddqd_tri.specs.Keys.{has1, has2, has3, key_tests};
 ghost use Rattle.iddqd_tri.specs.Mismatch.{mismatch_item, mismatch_rank};
-ghost use Rattle.iddqd_tri.specs.OccupiedRefs.{is_one, seen1, seen2, seen3};
+ghost use Rattle.iddqd_tri.specs.OccupiedRefs.{is_one, seen_item1, seen_item2, seen_item3};
 
 use super::{OccupiedEntry, OccupiedEntryMut, OccupiedEntryRef};
 use crate::error::KeyMismatch;
@@ -59,11 +59,11 @@ impl<
             (entry (entry_tests (key_tests T.TriHashItem Q1.stands_for Q2.stands_for Q3.stands_for) self.now)
             (bag self.now.map.now)) }
         ensures by_key1 { IsOnly (has1 T.TriHashItem Q1.stands_for self.now.query1) (bag self.now.map.now)
-            (seen1 result) }
+            (seen_item1 result) }
         ensures by_key2 { IsOnly (has2 T.TriHashItem Q2.stands_for self.now.query2) (bag self.now.map.now)
-            (seen2 result) }
+            (seen_item2 result) }
         ensures by_key3 { IsOnly (has3 T.TriHashItem Q3.stands_for self.now.query3) (bag self.now.map.now)
-            (seen3 result) }
+            (seen_item3 result) }
     {
         let is_unique = self.is_unique();
         let by_key1 = self.map.item_of(self.slot1);
@@ -80,11 +80,11 @@ impl<
             (entry (entry_tests (key_tests T.TriHashItem Q1.stands_for Q2.stands_for Q3.stands_for) self.entry)
             (bag self.entry.map.now)) }
         ensures by_key1 { IsOnly (has1 T.TriHashItem Q1.stands_for self.entry.query1) (bag self.entry.map.now)
-            (seen1 result) }
+            (seen_item1 result) }
         ensures by_key2 { IsOnly (has2 T.TriHashItem Q2.stands_for self.entry.query2) (bag self.entry.map.now)
-            (seen2 result) }
+            (seen_item2 result) }
         ensures by_key3 { IsOnly (has3 T.TriHashItem Q3.stands_for self.entry.query3) (bag self.entry.map.now)
-            (seen3 result) }
+            (seen_item3 result) }
     {
         let is_unique = self.is_unique();
         let OccupiedEntry {
@@ -163,8 +163,8 @@ impl<
         // The result is `Ok` only for an item with the entry's keys. The items that these keys found are returned, in
         // their order.
         ensures same_keys { OnOk result
-            (differ (entry_tests (key_tests T.TriHashItem Q1.stands_for Q2.stands_for Q3.stands_for) self.old) item
-            ≡ None) }
+            (first_mismatch (entry_tests
+            (key_tests T.TriHashItem Q1.stands_for Q2.stands_for Q3.stands_for) self.old) item ≡ None) }
         ensures displaced { IfOk result (λ gone. gone
             ≡ listing (entry_tests (key_tests T.TriHashItem Q1.stands_for Q2.stands_for Q3.stands_for) self.old)
             (bag self.old.map.now)) }
@@ -175,7 +175,8 @@ impl<
         // An item with another key is returned, and nothing changes.
         ensures handed_back { IfErr result (λ e. mismatch_item e ≡ item) }
         ensures rank { IfErr result (λ e.
-            differ (entry_tests (key_tests T.TriHashItem Q1.stands_for Q2.stands_for Q3.stands_for) self.old) item
+            first_mismatch (entry_tests
+            (key_tests T.TriHashItem Q1.stands_for Q2.stands_for Q3.stands_for) self.old) item
             ≡ Some (mismatch_rank e)) }
         ensures unchanged { OnErr result (self.new ≡ self.old) }
     {

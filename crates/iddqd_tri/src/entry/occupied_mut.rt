@@ -9,7 +9,7 @@ ghost use Rattle.iddqd_store.specs.Bag.{is_unique, swap};
 ghost use Rattle.iddqd_store.specs.Bag.Calling.{TakesInTurn};
 ghost use Rattle.iddqd_store.specs.Bag.Storing.{Stores};
 ghost use Rattle.iddqd_store.specs.Map.{bag};
-ghost use Rattle.iddqd_tri.specs.Entries.{Holds, HoldsSame, held, held1, held2, held3, held_entry, held_unique, held_with, lends_held_data, unique_slot};
+ghost use Rattle.iddqd_tri.specs.Entries.{Holds, HoldsSame, held_items, held_item1, held_item2, held_item3, held_entry, held_unique, held_with, lends_held_data, unique_slot};
 ghost use Rattle.iddqd_tri.specs.RefMuts.{ref_lender, ref_map, ref_item, rests_if_none};
 
 use super::OccupiedEntryMut;
@@ -48,7 +48,7 @@ impl<'a, T: TriHashItem, S: BuildHasher> OccupiedEntryMut<'a, T, S> {
     /// Returns a guard of the item with the first key, or `None`. Contracts say less of the map afterwards than after
     /// `into_by_key1`.
     pub fn by_key1(&mut self) -> Option<RefMut<'_, T, S>>
-        ensures item { option_and_then ref_item result ≡ held1 self.old }
+        ensures item { option_and_then ref_item result ≡ held_item1 self.old }
         ensures unchanged { IfSome result (λ r. ref_map r ≡ self.old.map.now) }
     {
         let slot = self.slot1;
@@ -58,7 +58,7 @@ impl<'a, T: TriHashItem, S: BuildHasher> OccupiedEntryMut<'a, T, S> {
     /// Returns a guard of the item with the second key, or `None`. Contracts say less of the map afterwards than after
     /// `into_by_key2`.
     pub fn by_key2(&mut self) -> Option<RefMut<'_, T, S>>
-        ensures item { option_and_then ref_item result ≡ held2 self.old }
+        ensures item { option_and_then ref_item result ≡ held_item2 self.old }
         ensures unchanged { IfSome result (λ r. ref_map r ≡ self.old.map.now) }
     {
         let slot = self.slot2;
@@ -68,7 +68,7 @@ impl<'a, T: TriHashItem, S: BuildHasher> OccupiedEntryMut<'a, T, S> {
     /// Returns a guard of the item with the third key, or `None`. Contracts say less of the map afterwards than after
     /// `into_by_key3`.
     pub fn by_key3(&mut self) -> Option<RefMut<'_, T, S>>
-        ensures item { option_and_then ref_item result ≡ held3 self.old }
+        ensures item { option_and_then ref_item result ≡ held_item3 self.old }
         ensures unchanged { IfSome result (λ r. ref_map r ≡ self.old.map.now) }
     {
         let slot = self.slot3;
@@ -96,7 +96,7 @@ impl<'a, T: TriHashItem, S: BuildHasher> OccupiedEntryMut<'a, T, S> {
     /// Returns a guard of the item with the first key, or `None`. The guard lasts for as long as `self` borrowed the
     /// map.
     pub fn into_by_key1(self) -> Option<RefMut<'a, T, S>>
-        ensures item { option_and_then ref_item result ≡ held1 self.entry }
+        ensures item { option_and_then ref_item result ≡ held_item1 self.entry }
         ensures unchanged { IfSome result (λ r. ref_map r ≡ self.entry.map.now) }
         ensures same_map { IfSome result (λ r. ref_lender r ≡ self.entry.map.ghost_name) }
         ensures* rests_at_none { sem 𝓛 (rests_if_none T.row S.row T.K1.row T.K2.row T.K3.row S.Hasher.row
@@ -114,7 +114,7 @@ impl<'a, T: TriHashItem, S: BuildHasher> OccupiedEntryMut<'a, T, S> {
     /// Returns a guard of the item with the second key, or `None`. The guard lasts for as long as `self` borrowed the
     /// map.
     pub fn into_by_key2(self) -> Option<RefMut<'a, T, S>>
-        ensures item { option_and_then ref_item result ≡ held2 self.entry }
+        ensures item { option_and_then ref_item result ≡ held_item2 self.entry }
         ensures unchanged { IfSome result (λ r. ref_map r ≡ self.entry.map.now) }
         ensures same_map { IfSome result (λ r. ref_lender r ≡ self.entry.map.ghost_name) }
         ensures* rests_at_none { sem 𝓛 (rests_if_none T.row S.row T.K1.row T.K2.row T.K3.row S.Hasher.row
@@ -132,7 +132,7 @@ impl<'a, T: TriHashItem, S: BuildHasher> OccupiedEntryMut<'a, T, S> {
     /// Returns a guard of the item with the third key, or `None`. The guard lasts for as long as `self` borrowed the
     /// map.
     pub fn into_by_key3(self) -> Option<RefMut<'a, T, S>>
-        ensures item { option_and_then ref_item result ≡ held3 self.entry }
+        ensures item { option_and_then ref_item result ≡ held_item3 self.entry }
         ensures unchanged { IfSome result (λ r. ref_map r ≡ self.entry.map.now) }
         ensures same_map { IfSome result (λ r. ref_lender r ≡ self.entry.map.ghost_name) }
         ensures* rests_at_none { sem 𝓛 (rests_if_none T.row S.row T.K1.row T.K2.row T.K3.row S.Hasher.row
@@ -152,8 +152,9 @@ impl<'a, T: TriHashItemMut, S: BuildHasher> OccupiedEntryMut<'a, T, S> {
     /// Returns the data of the item with the first key, borrowed for writing, or `None`. All items stay held.
     pub fn data1_mut(&mut self) -> Option<&mut T::Data>
         requires { Holds self.old }
-        ensures value { option_to_list (option_copied_mut result) ≡ map T.data_of (option_to_list (held1 self.old)) }
-        ensures swaps { (x : T) (d : T.Data) → held1 self.old ≡ Some x
+        ensures value { option_to_list (option_copied_mut result) ≡ map T.data_of (option_to_list
+            (held_item1 self.old)) }
+        ensures swaps { (x : T) (d : T.Data) → held_item1 self.old ≡ Some x
             → IsPermutation (bag (held_with self.old self.old.slot1 (λ y. T.put y d)).map.now)
             (swap ⟦<T as Ranked>⟧.ranks (bag self.old.map.now) x (T.put x d)) }
         ensures holds { (f : T → T) → Holds (held_with self.old self.old.slot1 f) }
@@ -168,8 +169,9 @@ impl<'a, T: TriHashItemMut, S: BuildHasher> OccupiedEntryMut<'a, T, S> {
     /// Returns the data of the item with the second key, borrowed for writing, or `None`. All items stay held.
     pub fn data2_mut(&mut self) -> Option<&mut T::Data>
         requires { Holds self.old }
-        ensures value { option_to_list (option_copied_mut result) ≡ map T.data_of (option_to_list (held2 self.old)) }
-        ensures swaps { (x : T) (d : T.Data) → held2 self.old ≡ Some x
+        ensures value { option_to_list (option_copied_mut result) ≡ map T.data_of (option_to_list
+            (held_item2 self.old)) }
+        ensures swaps { (x : T) (d : T.Data) → held_item2 self.old ≡ Some x
             → IsPermutation (bag (held_with self.old self.old.slot2 (λ y. T.put y d)).map.now)
             (swap ⟦<T as Ranked>⟧.ranks (bag self.old.map.now) x (T.put x d)) }
         ensures holds { (f : T → T) → Holds (held_with self.old self.old.slot2 f) }
@@ -184,8 +186,9 @@ impl<'a, T: TriHashItemMut, S: BuildHasher> OccupiedEntryMut<'a, T, S> {
     /// Returns the data of the item with the third key, borrowed for writing, or `None`. All items stay held.
     pub fn data3_mut(&mut self) -> Option<&mut T::Data>
         requires { Holds self.old }
-        ensures value { option_to_list (option_copied_mut result) ≡ map T.data_of (option_to_list (held3 self.old)) }
-        ensures swaps { (x : T) (d : T.Data) → held3 self.old ≡ Some x
+        ensures value { option_to_list (option_copied_mut result) ≡ map T.data_of (option_to_list
+            (held_item3 self.old)) }
+        ensures swaps { (x : T) (d : T.Data) → held_item3 self.old ≡ Some x
             → IsPermutation (bag (held_with self.old self.old.slot3 (λ y. T.put y d)).map.now)
             (swap ⟦<T as Ranked>⟧.ranks (bag self.old.map.now) x (T.put x d)) }
         ensures holds { (f : T → T) → Holds (held_with self.old self.old.slot3 f) }
@@ -220,11 +223,11 @@ impl<'a, T: TriHashItemMut, S: BuildHasher> OccupiedEntryMut<'a, T, S> {
     where
         T::Data: Drop,
         requires holds { Holds self.old }
-        requires callable { TakesInTurn F.FnMut f (held self.old) }
+        requires callable { TakesInTurn F.FnMut f (held_items self.old) }
         // Each item that is held gets the data that the closure returns for it.
         ensures same_map { self.new.map.ghost_name ≡ self.old.map.ghost_name }
         ensures stores { Stores (CalledAt F.FnMut) T.put ⟦<T as Ranked>⟧.ranks f
-            (held self.old) (bag self.old.map.now) (bag self.new.map.now) }
+            (held_items self.old) (bag self.old.map.now) (bag self.new.map.now) }
         // Nothing else changes.
         ensures places { HoldsSame self.old self.new }
         ensures holds { Holds self.new }

@@ -2,7 +2,7 @@
 //!
 //! Made by tests/widths from crates/iddqd_bi/src/entry/occupied_ref.rt: change that file.
 ghost use Rattle.std.specs.Prelude.{◌≡◌, true, is_some, not, option_copied};
-ghost use Rattle.iddqd_tri.specs.OccupiedRefs.{is_one, seen_unique, seen1, seen2, seen3};
+ghost use Rattle.iddqd_tri.specs.OccupiedRefs.{is_one, seen_unique, seen_item1, seen_item2, seen_item3};
 
 /// The items that three keys found, borrowed for reading.
 #[derive(Debug, Drop)]
@@ -32,9 +32,9 @@ impl<'a, T> OccupiedEntryRef<'a, T> {
         requires one2 { is_unique ≡ true → option_copied by_key1 ≡ option_copied by_key2 }
         requires one3 { is_unique ≡ true → option_copied by_key1 ≡ option_copied by_key3 }
         ensures is_one { is_one result ≡ is_unique }
-        ensures by_key1 { seen1 result ≡ option_copied by_key1.entry }
-        ensures by_key2 { seen2 result ≡ option_copied by_key2.entry }
-        ensures by_key3 { seen3 result ≡ option_copied by_key3.entry }
+        ensures by_key1 { seen_item1 result ≡ option_copied by_key1.entry }
+        ensures by_key2 { seen_item2 result ≡ option_copied by_key2.entry }
+        ensures by_key3 { seen_item3 result ≡ option_copied by_key3.entry }
     {
         if is_unique {
             if let Some(item) = by_key1 {
@@ -77,7 +77,7 @@ impl<'a, T> OccupiedEntryRef<'a, T> {
 
     /// Returns the item with the first key, or `None`.
     pub fn by_key1(&self) -> Option<&'a T>
-        ensures { option_copied result ≡ seen1 self.now }
+        ensures { option_copied result ≡ seen_item1 self.now }
     {
         match self {
             OccupiedEntryRef::Unique(item) => Some(*item),
@@ -87,7 +87,7 @@ impl<'a, T> OccupiedEntryRef<'a, T> {
 
     /// Returns the item with the second key, or `None`.
     pub fn by_key2(&self) -> Option<&'a T>
-        ensures { option_copied result ≡ seen2 self.now }
+        ensures { option_copied result ≡ seen_item2 self.now }
     {
         match self {
             OccupiedEntryRef::Unique(item) => Some(*item),
@@ -97,7 +97,7 @@ impl<'a, T> OccupiedEntryRef<'a, T> {
 
     /// Returns the item with the third key, or `None`.
     pub fn by_key3(&self) -> Option<&'a T>
-        ensures { option_copied result ≡ seen3 self.now }
+        ensures { option_copied result ≡ seen_item3 self.now }
     {
         match self {
             OccupiedEntryRef::Unique(item) => Some(*item),

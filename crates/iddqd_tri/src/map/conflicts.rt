@@ -2,7 +2,7 @@
 //!
 //! Made by tests/widths from crates/iddqd_bi/src/map/conflicts.rt: change that file.
 ghost use Rattle.std.specs.Prelude.{◌≡◌, map};
-ghost use Rattle.iddqd_store.specs.Bag.{order};
+ghost use Rattle.iddqd_store.specs.Bag.{conflicting};
 ghost use Rattle.iddqd_store.specs.Map.{bag};
 
 use super::TriHashMap;
@@ -23,7 +23,7 @@ impl<T: Ranked, S: BuildHasher> TriHashMap<T, S> {
     /// }
     /// ```
     pub fn conflicts_with(&self, item: &T) -> UpToThree<&T>
-        ensures { map (λ x. x.now) result ≡ order T.ranks (bag self.now) item.now }
+        ensures { map (λ x. x.now) result ≡ conflicting T.ranks (bag self.now) item.now }
     {
         // The slots are chosen first and borrowed after the match, so that its arms join before anything is borrowed.
         let found = match self.places(item, &mut Costs::new()) {

@@ -2,7 +2,7 @@
 //!
 //! Made by tests/widths from crates/iddqd_bi/src/map/overwrite.rt: change that file.
 ghost use Rattle.std.specs.Prelude.{◌≡◌, ◌<◌, ◌+◌, length, map, IsOk, IfOk, IfErr, OnOk, OnErr};
-ghost use Rattle.iddqd_store.specs.Bag.{order};
+ghost use Rattle.iddqd_store.specs.Bag.{conflicting};
 ghost use Rattle.iddqd_store.specs.Map.{bag, IsFullFor, Overwrites};
 ghost use Rattle.iddqd_store.specs.Rank.All.{PlacingCosts, hashes_of};
 
@@ -22,7 +22,7 @@ impl<T: Ranked, S: BuildHasher> TriHashMap<T, S> {
     #[inline(always)]
     pub fn insert_overwrite(&mut self, item: T) -> Result<UpToThree<T>, MemoryRefused<T>>
         // The conflicting items are returned, in the order of the item's keys, and the item is in their place.
-        ensures displaced { IfOk result (λ gone. gone ≡ order T.ranks (bag self.old) item) }
+        ensures displaced { IfOk result (λ gone. gone ≡ conflicting T.ranks (bag self.old) item) }
         ensures overwrites { OnOk result (Overwrites T.ranks self.old item self.new) }
         // With spare capacity the call never fails.
         ensures granted { length (bag self.old) < self.old.capacity → IsOk result }
@@ -44,7 +44,7 @@ impl<T: Ranked, S: BuildHasher> TriHashMap<T, S> {
         costs: &mut Costs,
     ) -> Result<UpToThree<T>, MemoryRefused<T>>
         // The conflicting items are returned, in the order of the item's keys, and the item is in their place.
-        ensures displaced { IfOk result (λ gone. gone ≡ order T.ranks (bag self.old) item) }
+        ensures displaced { IfOk result (λ gone. gone ≡ conflicting T.ranks (bag self.old) item) }
         ensures overwrites { OnOk result (Overwrites T.ranks self.old item self.new) }
         // With spare capacity the call never fails.
         ensures granted { length (bag self.old) < self.old.capacity → IsOk result }
@@ -54,7 +54,7 @@ impl<T: Ranked, S: BuildHasher> TriHashMap<T, S> {
         ensures reason { OnErr result (IsFullFor T.ranks self.old item) }
         ensures costs { PlacingCosts (⟦<T as Hashed<S>>⟧.hashes self.old.builder) (bag self.old) self.old.capacity
             (hashes_of (⟦<T as Hashed<S>>⟧.hashes self.old.builder) item)
-            (map (λ _. length (order T.ranks (bag self.old) item) + 1) T.ranks)
+            (map (λ _. length (conflicting T.ranks (bag self.old) item) + 1) T.ranks)
             costs.old costs.new }
     {
         // What an insert needs, or an overwrite of one item, is inlined, so a caller's loop branches on the outcome

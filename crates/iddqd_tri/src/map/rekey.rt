@@ -6,7 +6,7 @@ ghost use Rattle.iddqd_store.specs.Bag.{IsOnly};
 ghost use Rattle.iddqd_store.specs.Map.{bag, hash_of};
 ghost use Rattle.iddqd_store.specs.Rank.All.{hashes_of};
 ghost use Rattle.iddqd_tri.specs.Keys.{has1, has2, has3};
-ghost use Rattle.iddqd_tri.specs.Rekeyed.{PutsInPlace, RekeyingCosts, TellsWhyNot, left_out};
+ghost use Rattle.iddqd_tri.specs.Rekeyed.{PutsInPlace, RekeyingCosts, TellsWhyNot, refused_item};
 
 use super::TriHashMap;
 use crate::error::NotReplaced;
@@ -29,7 +29,7 @@ impl<T: Ranked, S: BuildHasher> TriHashMap<T, S> {
         ensures found { IfOk result (λ x. IsOnly (has1 T.TriHashItem Q.stands_for query) (bag self.old) (Some x)) }
         ensures puts { IfOk result (λ x. PutsInPlace self.old x item self.new) }
         // The error has the new item, and says which of the two cases it is. The map is as it was.
-        ensures handed_back { IfErr result (λ e. left_out e ≡ item) }
+        ensures handed_back { IfErr result (λ e. refused_item e ≡ item) }
         ensures unchanged { OnErr result (self.new ≡ self.old) }
         ensures reason { IfErr result (λ e. TellsWhyNot T.ranks
             (has1 T.TriHashItem Q.stands_for query) (bag self.old) item e) }
@@ -50,7 +50,7 @@ impl<T: Ranked, S: BuildHasher> TriHashMap<T, S> {
         ensures found { IfOk result (λ x. IsOnly (has1 T.TriHashItem Q.stands_for query) (bag self.old) (Some x)) }
         ensures puts { IfOk result (λ x. PutsInPlace self.old x item self.new) }
         // The error has the new item, and says which of the two cases it is. The map is as it was.
-        ensures handed_back { IfErr result (λ e. left_out e ≡ item) }
+        ensures handed_back { IfErr result (λ e. refused_item e ≡ item) }
         ensures unchanged { OnErr result (self.new ≡ self.old) }
         ensures reason { IfErr result (λ e. TellsWhyNot T.ranks
             (has1 T.TriHashItem Q.stands_for query) (bag self.old) item e) }
@@ -83,7 +83,7 @@ impl<T: Ranked, S: BuildHasher> TriHashMap<T, S> {
         ensures found { IfOk result (λ x. IsOnly (has2 T.TriHashItem Q.stands_for query) (bag self.old) (Some x)) }
         ensures puts { IfOk result (λ x. PutsInPlace self.old x item self.new) }
         // The error has the new item, and says which of the two cases it is. The map is as it was.
-        ensures handed_back { IfErr result (λ e. left_out e ≡ item) }
+        ensures handed_back { IfErr result (λ e. refused_item e ≡ item) }
         ensures unchanged { OnErr result (self.new ≡ self.old) }
         ensures reason { IfErr result (λ e. TellsWhyNot T.ranks
             (has2 T.TriHashItem Q.stands_for query) (bag self.old) item e) }
@@ -104,7 +104,7 @@ impl<T: Ranked, S: BuildHasher> TriHashMap<T, S> {
         ensures found { IfOk result (λ x. IsOnly (has2 T.TriHashItem Q.stands_for query) (bag self.old) (Some x)) }
         ensures puts { IfOk result (λ x. PutsInPlace self.old x item self.new) }
         // The error has the new item, and says which of the two cases it is. The map is as it was.
-        ensures handed_back { IfErr result (λ e. left_out e ≡ item) }
+        ensures handed_back { IfErr result (λ e. refused_item e ≡ item) }
         ensures unchanged { OnErr result (self.new ≡ self.old) }
         ensures reason { IfErr result (λ e. TellsWhyNot T.ranks
             (has2 T.TriHashItem Q.stands_for query) (bag self.old) item e) }
@@ -137,7 +137,7 @@ impl<T: Ranked, S: BuildHasher> TriHashMap<T, S> {
         ensures found { IfOk result (λ x. IsOnly (has3 T.TriHashItem Q.stands_for query) (bag self.old) (Some x)) }
         ensures puts { IfOk result (λ x. PutsInPlace self.old x item self.new) }
         // The error has the new item, and says which of the two cases it is. The map is as it was.
-        ensures handed_back { IfErr result (λ e. left_out e ≡ item) }
+        ensures handed_back { IfErr result (λ e. refused_item e ≡ item) }
         ensures unchanged { OnErr result (self.new ≡ self.old) }
         ensures reason { IfErr result (λ e. TellsWhyNot T.ranks
             (has3 T.TriHashItem Q.stands_for query) (bag self.old) item e) }
@@ -158,7 +158,7 @@ impl<T: Ranked, S: BuildHasher> TriHashMap<T, S> {
         ensures found { IfOk result (λ x. IsOnly (has3 T.TriHashItem Q.stands_for query) (bag self.old) (Some x)) }
         ensures puts { IfOk result (λ x. PutsInPlace self.old x item self.new) }
         // The error has the new item, and says which of the two cases it is. The map is as it was.
-        ensures handed_back { IfErr result (λ e. left_out e ≡ item) }
+        ensures handed_back { IfErr result (λ e. refused_item e ≡ item) }
         ensures unchanged { OnErr result (self.new ≡ self.old) }
         ensures reason { IfErr result (λ e. TellsWhyNot T.ranks
             (has3 T.TriHashItem Q.stands_for query) (bag self.old) item e) }

@@ -3,7 +3,7 @@ use Rattle.std.specs.Prelude.{IsPermutation}
 use Rattle.std.specs.Vec.Iter.{into_iter_items}
 use Rattle.std.proofs.IntoIterSteps.{All-taken}
 use Rattle.std.proofs.lemmas.Result.{IfErr-weaker, on_ok_weaker}
-use Rattle.iddqd_bi.specs.Bag.{overs}
+use Rattle.iddqd_bi.specs.Bag.{with_items}
 use Rattle.iddqd_bi.specs.Map.{bag}
 use Rattle.iddqd_bi.specs.Keys.{ranks}
 use Rattle.iddqd_bi.proofs.CallerLemmas.Batches.{batch-split}
@@ -13,7 +13,7 @@ use Rattle.caller_bi.proofs.building.extend_by_vec.Goals as goal
 pub returns-clause-all : goal.returns-clause-all
 returns-clause-all g c =
     let ranks = ranks g.T.BiHashItem g.T.K1.PartialEq.eq g.T.K2.PartialEq.eq in
-    on_ok_weaker c.extend.result (λ h. (subst (λ (xs : List g.row.T.Denot). IsPermutation (bag c.extend.new.self) (overs ranks (bag c.args.map.now) xs))
+    on_ok_weaker c.extend.result (λ h. (subst (λ (xs : List g.row.T.Denot). IsPermutation (bag c.extend.new.self) (with_items ranks (bag c.args.map.now) xs))
     (All-taken h.0 h.1 h.3 ∙ h.2.0) h.4.0)) c.extend.ensures.all
 
 -- the items before the one that came back are the first of the vector

@@ -1,6 +1,6 @@
 use Rattle.std.proofs.Common.{◌∙◌}
 use Rattle.std.specs.Prelude.{[], ◌∷◌}
-use Rattle.iddqd_bi.specs.Bag.{like, without}
+use Rattle.iddqd_bi.specs.Bag.{tests_of, remainder}
 use Rattle.iddqd_bi.specs.Map.{bag}
 use Rattle.iddqd_bi.specs.Rank.{agree}
 use Rattle.iddqd_bi.proofs.CallerLemmas.{NamesOne-query, contains-inserted}
@@ -16,4 +16,4 @@ returns-in-Ok g c =
     ∙ contains-inserted [] (agree g.T.BiHashItem.key2 g.T.K2.PartialEq.eq ∷ []) (agree g.T.BiHashItem.key1 eq1)
     (has1 g.T.BiHashItem eq1 c.args.key.now) (NamesOne-query eq1 eq1 g.T.BiHashItem.key1 g.met.T.K1.Eq.laws.congr c.args.key.now)
     (bag c.insert_overwrite.new.self) c.len-len.ensures.sound
-    (without (like ranks c.args.item) (bag c.args.map.now)) c.args.item c.in-Ok.ensures.overwrites.items c.requires.has
+    (remainder (tests_of ranks c.args.item) (bag c.args.map.now)) c.args.item c.in-Ok.ensures.overwrites.items c.requires.has

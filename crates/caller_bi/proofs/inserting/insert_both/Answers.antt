@@ -2,7 +2,7 @@ use Rattle.std.proofs.Common.{rules, ◌≡◌, ◌≢◌, ◌<◌, ◌⊎◌, i
 use Rattle.std.specs.Bool.{OnFalse}
 use Rattle.std.proofs.lemmas.List.Sorted.{IsPermutation-sym, length_permutation}
 use Rattle.iddqd_bi.specs.Map.{Gains, bag}
-use Rattle.iddqd_bi.proofs.CallerLemmas.{clash-none}
+use Rattle.iddqd_bi.proofs.CallerLemmas.{conflicts_of-none}
 use Rattle.caller_bi.proofs.inserting.insert_both.Goals as goal
 
 -- an insert that has neither reason to fail succeeds
@@ -18,5 +18,5 @@ returns-then-has_a-clause-granted g c free_a free_b room =
     let gains : Gains c.args.map.now c.args.a middle = search (rules, c.insert_or_drop-has_a.ensures.gains, c.if-has_a.true) in
     let as_many : length (c.args.a ∷ bag c.args.map.now) ≡ length (bag middle) = length_permutation _ _ gains.items in
     granted c.insert_or_drop-has_b.result _ (length (bag middle)) middle.capacity c.insert_or_drop-has_b.ensures.reason
-    (clash-none g.T.Ranked.ranks _ _ c.args.b (IsPermutation-sym _ _ gains.items) free_b)
+    (conflicts_of-none g.T.Ranked.ranks _ _ c.args.b (IsPermutation-sym _ _ gains.items) free_b)
     (omega (arith, as_many, room, c.insert_or_drop-has_a.ensures.no_less_room))

@@ -1,11 +1,11 @@
 use Rattle.std.proofs.Common.{refl, sym, [], ◌++◌, ◌∷◌}
-use Rattle.iddqd_bi.proofs.CallerLemmas.{passed-to_come}
+use Rattle.iddqd_bi.proofs.CallerLemmas.{passed_items-to_come}
 use Rattle.iddqd_bi.specs.RefMuts.{ref_item}
 use Rattle.iddqd_bi.proofs.CallerLemmas.Walks.{step_done, all_done, none_holds, some_holds}
 use Rattle.caller_bi.proofs.walking.write_all.Goals as goal
 
 pub loop-item-init : goal.loop-item-init
-loop-item-init g c = rw c.new-at.ensures ([], refl, sym (passed-to_come c.args.map.now 0))
+loop-item-init g c = rw c.new-at.ensures ([], refl, sym (passed_items-to_come c.args.map.now 0))
 
 -- one more is written
 pub loop-item-preserved : goal.loop-item-preserved

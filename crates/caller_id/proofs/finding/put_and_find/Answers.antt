@@ -1,7 +1,7 @@
 -- Made by tests/widths from crates/caller_bi/proofs/finding/put_and_find/Answers.antt: change that file.
 use Rattle.std.proofs.Common.{◌∙◌}
 use Rattle.std.specs.Prelude.{[]}
-use Rattle.iddqd_id.specs.Bag.{like, without}
+use Rattle.iddqd_id.specs.Bag.{tests_of, remainder}
 use Rattle.iddqd_id.specs.Map.{bag}
 use Rattle.iddqd_id.specs.Rank.{agree}
 use Rattle.iddqd_id.proofs.CallerLemmas.{NamesOne-query, contains-inserted}
@@ -17,4 +17,4 @@ returns-in-Ok g c =
     ∙ contains-inserted [] [] (agree g.T.IdHashItem.key eq)
     (has g.T.IdHashItem eq c.args.key.now) (NamesOne-query eq eq g.T.IdHashItem.key g.met.T.Key.Eq.laws.congr c.args.key.now)
     (bag c.insert_overwrite.new.self) c.len-len.ensures.sound
-    (without (like ranks c.args.item) (bag c.args.map.now)) c.args.item c.in-Ok.ensures.overwrites.items c.requires.has
+    (remainder (tests_of ranks c.args.item) (bag c.args.map.now)) c.args.item c.in-Ok.ensures.overwrites.items c.requires.has

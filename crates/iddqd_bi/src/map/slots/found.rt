@@ -2,7 +2,7 @@
 //! items, borrowed for reading or writing.
 ghost use Rattle.std.specs.Prelude.{◌≡◌, ◌<◌, ◌+◌, [], ◌∷◌, map, IfSome, option_copied};
 ghost use Rattle.std.specs.Option.{option_and_then};
-ghost use Rattle.iddqd_store.specs.Bag.{IsOnly, differ, every_of};
+ghost use Rattle.iddqd_store.specs.Bag.{IsOnly, first_mismatch, every_of};
 ghost use Rattle.iddqd_store.specs.Rank.All.{UniqueCosts};
 ghost use Rattle.iddqd_store.specs.Rank.Index.{HasHash};
 ghost use Rattle.iddqd_store.specs.Map.{bag, hash_of};
@@ -39,7 +39,7 @@ pub(crate) fn differ<T: BiHashItem, Q1: Query<T::K1>, Q2: Query<T::K2>>(
     query1: Q1,
     query2: Q2,
 ) -> Option<usize>
-    ensures rank { result ≡ differ (key_tests T.BiHashItem Q1.stands_for Q2.stands_for query1 query2) item.now }
+    ensures rank { result ≡ first_mismatch (key_tests T.BiHashItem Q1.stands_for Q2.stands_for query1 query2) item.now }
     ensures below { IfSome result (λ rank. rank < 2) }
 {
     if !query1.stands_for(item.key1()) {

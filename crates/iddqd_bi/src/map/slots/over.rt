@@ -1,6 +1,6 @@
 //! Inserting an item in place of others.
 ghost use Rattle.std.specs.Prelude.{◌≡◌, ◌≢◌, ◌+◌, ◌≤◌, [], ◌∷◌, length, map, None, Some, IfOk, IfErr, OnOk, OnErr, slice_set};
-ghost use Rattle.iddqd_store.specs.Bag.{clash, order, over};
+ghost use Rattle.iddqd_store.specs.Bag.{conflicts_of, conflicting, with_item};
 ghost use Rattle.iddqd_store.specs.Map.{bag, ListsConflicts, PutsAt};
 ghost use Rattle.iddqd_store.specs.Rank.All.{ArePlacesOf, AreHashed, HaveHashes, PlacingCosts, hashes_of};
 ghost use Rattle.iddqd_store.specs.Rank.{rehash_walks, walks_within, merge_two_walks};
@@ -33,9 +33,9 @@ impl<T: BiHashItem, S: BuildHasher> BiHashMap<T, S> {
             (hashes_of (⟦<T as Hashed<S>>⟧.hashes self.old.builder) item) (found.now.0 ∷ found.now.1 ∷ []) }
         requires hashed { AreHashed
             (⟦<T as Hashed<S>>⟧.hashes self.old.builder) self.old.slots (found.now.0 ∷ found.now.1 ∷ []) }
-        ensures displaced { result.0 ≡ order ⟦<T as Ranked>⟧.ranks (bag self.old) item }
+        ensures displaced { result.0 ≡ conflicting ⟦<T as Ranked>⟧.ranks (bag self.old) item }
         ensures puts_at { PutsAt ⟦<T as Ranked>⟧.ranks self.old result.1 item
-            (over ⟦<T as Ranked>⟧.ranks (bag self.old) item) self.new }
+            (with_item ⟦<T as Ranked>⟧.ranks (bag self.old) item) self.new }
         ensures costs { meter.new ≤ meter.old + walks_within (length (bag self.old))
             (map (λ _. length result.0 + 1) ⟦<T as Ranked>⟧.ranks) }
     {
@@ -65,7 +65,7 @@ impl<T: BiHashItem, S: BuildHasher> BiHashMap<T, S> {
             (item ∷ contents (slice_set self.old.slots slot None)) self.new) }
         ensures handed_back { IfErr result (λ x. x ≡ item) }
         ensures reason { OnErr result
-            (clash ⟦<T as Ranked>⟧.ranks (contents (slice_set self.old.slots slot None)) item ≢ []) }
+            (conflicts_of ⟦<T as Ranked>⟧.ranks (contents (slice_set self.old.slots slot None)) item ≢ []) }
         ensures unchanged { OnErr result (self.new ≡ self.old) }
         ensures costs { PlacingCosts (⟦<T as Hashed<S>>⟧.hashes self.old.builder) (bag self.old) self.old.capacity
             (hashes_of (⟦<T as Hashed<S>>⟧.hashes self.old.builder) item) (map (λ _. 2) ⟦<T as Ranked>⟧.ranks)
@@ -99,7 +99,7 @@ impl<T: BiHashItem, S: BuildHasher> BiHashMap<T, S> {
         meter: &mut Meter,
     ) -> T
         requires live { IsLive self.old.slots slot }
-        requires free { clash ⟦<T as Ranked>⟧.ranks (contents (slice_set self.old.slots slot None)) item ≡ [] }
+        requires free { conflicts_of ⟦<T as Ranked>⟧.ranks (contents (slice_set self.old.slots slot None)) item ≡ [] }
         requires spots { ArePlacesOf
             (⟦<T as Hashed<S>>⟧.hashes self.old.builder) (bag self.old) item (at.0 ∷ at.1 ∷ []) }
         ensures value { get self.old.slots slot ≡ Some result }
@@ -129,7 +129,7 @@ impl<T: BiHashItem, S: BuildHasher> BiHashMap<T, S> {
         meter: &mut Meter,
     ) -> T
         requires live { IsLive self.old.slots slot }
-        requires free { clash ⟦<T as Ranked>⟧.ranks (contents (slice_set self.old.slots slot None)) item ≡ [] }
+        requires free { conflicts_of ⟦<T as Ranked>⟧.ranks (contents (slice_set self.old.slots slot None)) item ≡ [] }
         requires hashes { HaveHashes
             (hashes_of (⟦<T as Hashed<S>>⟧.hashes self.old.builder) item) (found.now.0 ∷ found.now.1 ∷ []) }
         requires hashed { AreHashed
@@ -164,7 +164,7 @@ impl<T: BiHashItem, S: BuildHasher> BiHashMap<T, S> {
     ) -> (T, T)
         requires live { IsLive self.old.slots slot × IsLive self.old.slots other_slot }
         requires apart { slot ≢ other_slot }
-        requires free { clash ⟦<T as Ranked>⟧.ranks
+        requires free { conflicts_of ⟦<T as Ranked>⟧.ranks
             (contents (slice_set (slice_set self.old.slots other_slot None) slot None)) item ≡ [] }
         requires hashes { HaveHashes
             (hashes_of (⟦<T as Hashed<S>>⟧.hashes self.old.builder) item) (found.now.0 ∷ found.now.1 ∷ []) }

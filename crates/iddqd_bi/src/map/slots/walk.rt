@@ -2,7 +2,7 @@
 ghost use Rattle.std.specs.Prelude.{◌≡◌, ◌+◌, ◌^◌, ◌<◌, [], length, Some, IfSome, IfNone};
 ghost use Rattle.iddqd_store.specs.Slots.{get, IsLive};
 ghost use Rattle.iddqd_store.specs.Slots.Next.{ComesNext};
-ghost use Rattle.iddqd_store.specs.Map.Walk.{Passes, first_from, passed, to_come};
+ghost use Rattle.iddqd_store.specs.Map.Walk.{Passes, first_from, passed_items, to_come};
 ghost use Rattle.iddqd_store.specs.Map.Written.{map_with};
 
 use super::super::BiHashMap;
@@ -43,7 +43,7 @@ impl<T: BiHashItem, S: BuildHasher> BiHashMap<T, S> {
         ensures live { IfSome result (IsLive self.now.slots) }
         ensures comes { (x : T) → get self.now.slots number ≡ Some x → ComesNext self.now.slots number number x }
         ensures skips { IfNone result (to_come self.now number ≡ to_come self.now (number + 1)) }
-        ensures passed { IfNone result (passed self.now (number + 1) ≡ passed self.now number) }
+        ensures passed { IfNone result (passed_items self.now (number + 1) ≡ passed_items self.now number) }
     {
         let slot = ItemIndex::new(number);
         if self.items.get(slot).is_some() {

@@ -3,7 +3,7 @@
 //! Made by tests/widths from crates/iddqd_bi/src/map/slots/batch.rt: change that file.
 ghost use Rattle.std.specs.Prelude.{◌≡◌, ◌<◌, ◌++◌, [], ◌∷◌, length, List, All, IsOk, OnOk, OnErr, IfErr, nat_eq};
 ghost use Rattle.std.specs.List.{IsDistinct};
-ghost use Rattle.iddqd_store.specs.Bag.{clash};
+ghost use Rattle.iddqd_store.specs.Bag.{conflicts_of};
 ghost use Rattle.iddqd_store.specs.Map.{bag, Gains, GrowsUnless, Loses};
 ghost use Rattle.iddqd_store.specs.Slots.{IsLive};
 ghost use Rattle.iddqd_store.specs.Slots.Found.{items_at, StandAt};
@@ -31,10 +31,10 @@ impl<T: IdHashItem, S: BuildHasher> IdHashMap<T, S> {
         T: Drop,
         requires { 0 < wanted }
         ensures gains { OnOk result (Gains self.old item self.new) }
-        ensures free { OnOk result (clash ⟦<T as Ranked>⟧.ranks (bag self.old) item ≡ []) }
+        ensures free { OnOk result (conflicts_of ⟦<T as Ranked>⟧.ranks (bag self.old) item ≡ []) }
         ensures noted { OnOk result ((xs : List T) → StandAt self.old.slots batch.old.slots xs
             → StandAt self.new.slots batch.new.slots (xs ++ item ∷ [])) }
-        ensures granted { clash ⟦<T as Ranked>⟧.ranks (bag self.old) item ≡ [] → length
+        ensures granted { conflicts_of ⟦<T as Ranked>⟧.ranks (bag self.old) item ≡ [] → length
             (bag self.old) < self.old.capacity
             → length batch.old.slots < batch.old.room → IsOk result }
         ensures reason { IfErr result (TellsTaken T.IdHashItem T.Key.eq (bag self.old) item) }

@@ -2,7 +2,7 @@
 //!
 //! Made by tests/widths from crates/iddqd_bi/src/map/slots/over.rt: change that file.
 ghost use Rattle.std.specs.Prelude.{◌≡◌, ◌≢◌, ◌+◌, ◌≤◌, [], ◌∷◌, length, map, None, Some, IfOk, IfErr, OnOk, OnErr, slice_set};
-ghost use Rattle.iddqd_store.specs.Bag.{clash, order, over};
+ghost use Rattle.iddqd_store.specs.Bag.{conflicts_of, conflicting, with_item};
 ghost use Rattle.iddqd_store.specs.Map.{bag, ListsConflicts, PutsAt};
 ghost use Rattle.iddqd_store.specs.Rank.All.{ArePlacesOf, AreHashed, HaveHashes, PlacingCosts, hashes_of};
 ghost use Rattle.iddqd_store.specs.Rank.{rehash_walks, walks_within};
@@ -32,9 +32,9 @@ impl<T: IdHashItem, S: BuildHasher> IdHashMap<T, S> {
             (hashes_of (⟦<T as Hashed<S>>⟧.hashes self.old.builder) item) (found.now ∷ []) }
         requires hashed { AreHashed
             (⟦<T as Hashed<S>>⟧.hashes self.old.builder) self.old.slots (found.now ∷ []) }
-        ensures displaced { result.0 ∷ [] ≡ order ⟦<T as Ranked>⟧.ranks (bag self.old) item }
+        ensures displaced { result.0 ∷ [] ≡ conflicting ⟦<T as Ranked>⟧.ranks (bag self.old) item }
         ensures puts_at { PutsAt ⟦<T as Ranked>⟧.ranks self.old result.1 item
-            (over ⟦<T as Ranked>⟧.ranks (bag self.old) item) self.new }
+            (with_item ⟦<T as Ranked>⟧.ranks (bag self.old) item) self.new }
         ensures costs { meter.new ≤ meter.old + walks_within (length (bag self.old))
             (map (λ _. 2) ⟦<T as Ranked>⟧.ranks) }
     {
@@ -54,7 +54,7 @@ impl<T: IdHashItem, S: BuildHasher> IdHashMap<T, S> {
             (item ∷ contents (slice_set self.old.slots slot None)) self.new) }
         ensures handed_back { IfErr result (λ x. x ≡ item) }
         ensures reason { OnErr result
-            (clash ⟦<T as Ranked>⟧.ranks (contents (slice_set self.old.slots slot None)) item ≢ []) }
+            (conflicts_of ⟦<T as Ranked>⟧.ranks (contents (slice_set self.old.slots slot None)) item ≢ []) }
         ensures unchanged { OnErr result (self.new ≡ self.old) }
         ensures costs { PlacingCosts (⟦<T as Hashed<S>>⟧.hashes self.old.builder) (bag self.old) self.old.capacity
             (hashes_of (⟦<T as Hashed<S>>⟧.hashes self.old.builder) item) (map (λ _. 2) ⟦<T as Ranked>⟧.ranks)
@@ -79,7 +79,7 @@ impl<T: IdHashItem, S: BuildHasher> IdHashMap<T, S> {
     /// into it.
     fn rekey_into(&mut self, slot: ItemIndex, item: T, at: Vacancy, meter: &mut Meter) -> T
         requires live { IsLive self.old.slots slot }
-        requires free { clash ⟦<T as Ranked>⟧.ranks (contents (slice_set self.old.slots slot None)) item ≡ [] }
+        requires free { conflicts_of ⟦<T as Ranked>⟧.ranks (contents (slice_set self.old.slots slot None)) item ≡ [] }
         requires spots { ArePlacesOf
             (⟦<T as Hashed<S>>⟧.hashes self.old.builder) (bag self.old) item (at ∷ []) }
         ensures value { get self.old.slots slot ≡ Some result }
@@ -106,7 +106,7 @@ impl<T: IdHashItem, S: BuildHasher> IdHashMap<T, S> {
         meter: &mut Meter,
     ) -> T
         requires live { IsLive self.old.slots slot }
-        requires free { clash ⟦<T as Ranked>⟧.ranks (contents (slice_set self.old.slots slot None)) item ≡ [] }
+        requires free { conflicts_of ⟦<T as Ranked>⟧.ranks (contents (slice_set self.old.slots slot None)) item ≡ [] }
         requires hashes { HaveHashes
             (hashes_of (⟦<T as Hashed<S>>⟧.hashes self.old.builder) item) (found.now ∷ []) }
         requires hashed { AreHashed

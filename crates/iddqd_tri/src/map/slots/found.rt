@@ -4,7 +4,7 @@
 //! Made by tests/widths from crates/iddqd_bi/src/map/slots/found.rt: change that file.
 ghost use Rattle.std.specs.Prelude.{◌≡◌, ◌<◌, ◌≤◌, ◌+◌, [], ◌∷◌, map, IfSome, option_copied};
 ghost use Rattle.std.specs.Option.{option_and_then};
-ghost use Rattle.iddqd_store.specs.Bag.{IsOnly, differ, every_of};
+ghost use Rattle.iddqd_store.specs.Bag.{IsOnly, first_mismatch, every_of};
 ghost use Rattle.iddqd_store.specs.Rank.All.{UniqueCosts};
 ghost use Rattle.iddqd_store.specs.Rank.Index.{HasHash};
 ghost use Rattle.iddqd_store.specs.Map.{bag, hash_of};
@@ -48,7 +48,7 @@ pub(crate) fn differ<T: TriHashItem, Q1: Query<T::K1>, Q2: Query<T::K2>, Q3: Que
     query2: Q2,
     query3: Q3,
 ) -> Option<usize>
-    ensures rank { result ≡ differ
+    ensures rank { result ≡ first_mismatch
         (key_tests T.TriHashItem Q1.stands_for Q2.stands_for Q3.stands_for query1 query2 query3) item.now }
     ensures below { IfSome result (λ rank. rank < 3) }
 {

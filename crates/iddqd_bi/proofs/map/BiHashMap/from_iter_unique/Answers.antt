@@ -38,7 +38,7 @@ pub remove_slots-duplicates-requires : goal.remove_slots-duplicates-requires
 remove_slots-duplicates-requires g c =
     let arm = c.in-Err-Duplicate in
     let why = rw arm.field-0-is at arm.ensures.reason in
-    let stand = stand_in (rw (c.slot.ensures, c.slot-in-Err-Duplicate.ensures) at c.each_once-slots.ensures) why.blocked.found in
+    let stand = stand_in (rw (c.slot.ensures, c.slot-in-Err-Duplicate.ensures) at c.each_once-slots.ensures) why.conflict.found in
     record { live = rw arm.ensures.unchanged stand.live; apart = stand.apart }
 
 pub returns-in-Err-Duplicate-clause-refused : goal.returns-in-Err-Duplicate-clause-refused
@@ -46,8 +46,8 @@ returns-in-Err-Duplicate-clause-refused g c =
     let arm = c.in-Err-Duplicate in
     let item = rw arm.field-0-is at arm.ensures.handed_back in
     let why = rw arm.field-0-is at (rw (← g.met.T.Ranked.ranks_are) at arm.ensures.reason) in
-    let stand = stand_in (rw (c.slot.ensures, c.slot-in-Err-Duplicate.ensures) at c.each_once-slots.ensures) why.blocked.found in
+    let stand = stand_in (rw (c.slot.ensures, c.slot-in-Err-Duplicate.ensures) at c.each_once-slots.ensures) why.conflict.found in
     let listed = (rw arm.ensures.unchanged at c.remove_slots-duplicates.ensures.values) ∙ stand.items in
     let laws = AreLawful-are g.T.BiHashItem g.met.T.Ranked.ranks_are g.met.T.K1.Eq.laws g.met.T.K2.Eq.laws in
-    let stopped = RefusesFor-found g.T.Ranked.ranks (bag c.loop-item.map) c.loop-item.yielded c.in-Some.item c.loop-item.invariant.added laws why.blocked.some in
+    let stopped = RefusesFor-found g.T.Ranked.ranks (bag c.loop-item.map) c.loop-item.yielded c.in-Some.item c.loop-item.invariant.added laws why.conflict.some in
     rw (c.new-in-Err-Duplicate.ensures, listed, item) (c.into_iter-items.result, c.loop-item.yielded, c.next.new.self, search rules, search rules, stopped)

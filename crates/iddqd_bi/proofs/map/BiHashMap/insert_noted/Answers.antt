@@ -21,7 +21,7 @@ returns-then-is_err-clause-grows_unless g c =
     record { no_less_room = c.make_room.ensures.no_less_room; same_room = λ spare. ap (λ m. m.capacity) (c.make_room.ensures.same_room spare); same_builder = c.make_room.ensures.builder }
 
 pub returns-in-Found-clause-granted : goal.returns-in-Found-clause-granted
-returns-in-Found-clause-granted g c = λ free spare noted. absurd (c.in-Found.ensures.blocked.some free)
+returns-in-Found-clause-granted g c = λ free spare noted. absurd (c.in-Found.ensures.conflict.some free)
 
 pub insert_into-slot-requires-clause-free : goal.insert_into-slot-requires-clause-free
 insert_into-slot-requires-clause-free g c = rw c.make_room.ensures.slots c.in-Vacant.ensures.free

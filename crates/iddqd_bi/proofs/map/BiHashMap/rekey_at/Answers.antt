@@ -15,27 +15,27 @@ rekey_into-requires-clause-free g c =
 pub unreachable-requires : goal.unreachable-requires
 unreachable-requires g c =
     let found = sym (rw (c.slot.ensures, c.slot-2.ensures) at c.each_once-slots.ensures) in
-    some_found c.in-Found.ensures.blocked (ap length (found ∙ c.in_default.ensures.rest ∙ c.in_default.ensures.end))
+    some_found c.in-Found.ensures.conflict (ap length (found ∙ c.in_default.ensures.rest ∙ c.in_default.ensures.end))
 
 pub returns-then-ne-clause-reason : goal.returns-then-ne-clause-reason
 returns-then-ne-clause-reason g c =
     let found = sym (rw (c.slot.ensures, c.slot-2.ensures) at c.each_once-slots.ensures) in
     let apart : c.in-Some.other ≢ c.args.slot = λ same. search rules in
-    other_conflicts c.in-Found.ensures.blocked (found ∙ c.in-Some.ensures.rest) apart
+    other_conflicts c.in-Found.ensures.conflict (found ∙ c.in-Some.ensures.rest) apart
 
 pub overwrite_one-requires-clause-free : goal.overwrite_one-requires-clause-free
 overwrite_one-requires-clause-free g c =
     let found = sym (rw (c.slot.ensures, c.slot-2.ensures) at c.each_once-slots.ensures) in
     let same : c.in-Some.other ≡ c.args.slot = search rules in
     let only = rw (c.in-None.ensures.rest, c.in-None.ensures.end, same) at c.in-Some.ensures.rest in
-    none_else c.in-Found.ensures.blocked (found ∙ only)
+    none_else c.in-Found.ensures.conflict (found ∙ only)
 
 pub returns-in-Some-pop_front-clause-reason : goal.returns-in-Some-pop_front-clause-reason
 returns-in-Some-pop_front-clause-reason g c =
     let found = sym (rw (c.slot.ensures, c.slot-2.ensures) at c.each_once-slots.ensures) in
     let same : c.in-Some.other ≡ c.args.slot = search rules in
     let both = rw (c.in-Some-pop_front.ensures.rest, same) at c.in-Some.ensures.rest in
-    second_conflicts c.in-Found.ensures.blocked (found ∙ both)
+    second_conflicts c.in-Found.ensures.conflict (found ∙ both)
 
 pub returns-in-Vacant-clause-costs : goal.returns-in-Vacant-clause-costs
 returns-in-Vacant-clause-costs g c =

@@ -1,8 +1,8 @@
 use Rattle.std.proofs.Common.{rules, ◌≡◌, sym, ◌∙◌}
 use Rattle.std.specs.Prelude.{is_some}
-use Rattle.iddqd_store.specs.Bag.{like}
+use Rattle.iddqd_store.specs.Bag.{tests_of}
 use Rattle.iddqd_store.specs.Map.{bag}
-use Rattle.iddqd_store.proofs.CallerLemmas.Asking.{none-clash}
+use Rattle.iddqd_store.proofs.CallerLemmas.Asking.{none-conflicts_of}
 use Rattle.iddqd_store.proofs.MapLemmas.Growing.{not_full}
 use Rattle.iddqd_store.proofs.MapLemmas.Places.{is_some-at, none_taken}
 use Rattle.iddqd_bi.specs.Keys.{has1, has2, ranks}
@@ -17,17 +17,17 @@ returns-in-Err-Duplicate g c =
     let seen2 : c.is_some-taken2.result ≡ is_some arm.found.1.slot = search rules in
     let taken1 = seen1 ∙ is_some-at (has1 g.T.BiHashItem g.T.K1.PartialEq.eq (g.T.BiHashItem.key1 c.args.item)) slots arm.found.0.slot why.found.0 in
     let taken2 = seen2 ∙ is_some-at (has2 g.T.BiHashItem g.T.K2.PartialEq.eq (g.T.BiHashItem.key2 c.args.item)) slots arm.found.1.slot why.found.1.0 in
-    let none = none-clash (ranks g.T.BiHashItem g.T.K1.PartialEq.eq g.T.K2.PartialEq.eq) (bag c.args.self.now) c.args.item in
+    let none = none-conflicts_of (ranks g.T.BiHashItem g.T.K1.PartialEq.eq g.T.K2.PartialEq.eq) (bag c.args.self.now) c.args.item in
     record {
       gains = search rules;
       free = search rules;
-      granted = rw g.met.T.Ranked.ranks_are (λ free spare. absurd (why.blocked.some free));
+      granted = rw g.met.T.Ranked.ranks_are (λ free spare. absurd (why.conflict.some free));
       handed_back = rw arm.field-0-is at arm.ensures.handed_back;
       unchanged = arm.ensures.unchanged;
       reason = record {
         taken1 = taken1;
         taken2 = taken2;
-        full = λ free1 free2. absurd (why.blocked.some (none (sym taken1 ∙ free1, (sym taken2 ∙ free2, tt))));
+        full = λ free1 free2. absurd (why.conflict.some (none (sym taken1 ∙ free1, (sym taken2 ∙ free2, tt))));
       };
     }
 
@@ -36,7 +36,7 @@ returns-in-Err-Memory g c =
     let arm = c.in-Err-Memory in
     let full = rw arm.field-0-is at arm.ensures.reason in
     let ranks = ranks g.T.BiHashItem g.T.K1.PartialEq.eq g.T.K2.PartialEq.eq in
-    let free = none_taken (like ranks c.args.item) (bag c.args.self.now) full.free in
+    let free = none_taken (tests_of ranks c.args.item) (bag c.args.self.now) full.free in
     record {
       gains = search rules;
       free = search rules;

@@ -41,20 +41,20 @@ returns-in-Err-Memory-clause-refused g c =
 pub unreachable-requires : goal.unreachable-requires
 unreachable-requires g c =
     let why = rw c.in-Err-Duplicate.field-0-is at c.in-Err-Duplicate.ensures.reason in
-    some_found why.blocked (no_slot (sym c.in_default.ensures))
+    some_found why.conflict (no_slot (sym c.in_default.ensures))
 
 pub remove_at-duplicate-requires : goal.remove_at-duplicate-requires
 remove_at-duplicate-requires g c =
     let arm = c.in-Err-Duplicate in
     let why = rw arm.field-0-is at arm.ensures.reason in
-    rw arm.ensures.unchanged (All-head (IsLive c.loop-item.map.slots) c.in-Some-slot.slot [] (stand_in (sym (one_slot (sym c.in-Some-slot.ensures))) why.blocked.found).live)
+    rw arm.ensures.unchanged (All-head (IsLive c.loop-item.map.slots) c.in-Some-slot.slot [] (stand_in (sym (one_slot (sym c.in-Some-slot.ensures))) why.conflict.found).live)
 
 pub returns-in-Err-Duplicate-clause-refused : goal.returns-in-Err-Duplicate-clause-refused
 returns-in-Err-Duplicate-clause-refused g c =
     let arm = c.in-Err-Duplicate in
     let item = rw arm.field-0-is at arm.ensures.handed_back in
     let why = rw arm.field-0-is at (rw (← g.met.T.Ranked.ranks_are) at arm.ensures.reason) in
-    let listed = rw (rw arm.ensures.unchanged at c.remove_at-duplicate.ensures.value) at (stand_in (sym (one_slot (sym c.in-Some-slot.ensures))) why.blocked.found).items in
+    let listed = rw (rw arm.ensures.unchanged at c.remove_at-duplicate.ensures.value) at (stand_in (sym (one_slot (sym c.in-Some-slot.ensures))) why.conflict.found).items in
     let laws = AreLawful-are g.T.IdHashItem g.met.T.Ranked.ranks_are g.met.T.Key.Eq.laws in
-    let stopped = RefusesFor-found g.T.Ranked.ranks (bag c.loop-item.map) c.loop-item.yielded c.in-Some.item c.loop-item.invariant.added laws why.blocked.some in
+    let stopped = RefusesFor-found g.T.Ranked.ranks (bag c.loop-item.map) c.loop-item.yielded c.in-Some.item c.loop-item.invariant.added laws why.conflict.some in
     rw (c.new-in-Err-Duplicate.ensures, listed, item) (c.into_iter-items.result, c.loop-item.yielded, c.next.new.self, search rules, search rules, stopped)

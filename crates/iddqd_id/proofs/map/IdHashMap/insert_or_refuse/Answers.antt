@@ -6,7 +6,7 @@ use Rattle.iddqd_id.proofs.map.IdHashMap.insert_or_refuse.Goals as goal
 pub returns-in-Found-clause-reason : goal.returns-in-Found-clause-reason
 returns-in-Found-clause-reason g c =
     let searched = c.in-Found.ensures in
-    record { blocked = searched.blocked; found = searched.found; hashes = searched.hashes; hashed = searched.hashed }
+    record { conflict = searched.conflict; found = searched.found; hashes = searched.hashes; hashed = searched.hashed }
 
 pub returns-in-Found-clause-costs : goal.returns-in-Found-clause-costs
 returns-in-Found-clause-costs g c = placing _ _ c.places.ensures.costs (omega arith)

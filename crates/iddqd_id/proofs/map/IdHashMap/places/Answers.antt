@@ -1,5 +1,5 @@
 -- Made by tests/widths from crates/iddqd_bi/proofs/map/BiHashMap/places/Answers.antt: change that file.
-use Rattle.iddqd_store.proofs.MapLemmas.Places.{blocked_on, free_on}
+use Rattle.iddqd_store.proofs.MapLemmas.Places.{conflict_on, free_on}
 use Rattle.iddqd_id.specs.Keys.{ranks}
 use Rattle.iddqd_id.proofs.MapLemmas.{AreLawful-ranks}
 use Rattle.iddqd_id.proofs.map.IdHashMap.places.Goals as goal
@@ -10,9 +10,9 @@ returns-clause-free g c =
     (ranks g.T.IdHashItem g.T.Key.PartialEq.eq) c.args.item.now _
     (rw c.key.ensures at c.search_all.ensures.found) c.search_all.result c.search_all.ensures.none_found
 
-pub returns-clause-blocked : goal.returns-clause-blocked
-returns-clause-blocked g c =
-    blocked_on (AreLawful-ranks g.T.IdHashItem g.met.T.Key.Eq.laws).0 c.args.self.now c.search_all.ensures.apart
+pub returns-clause-conflict : goal.returns-clause-conflict
+returns-clause-conflict g c =
+    conflict_on (AreLawful-ranks g.T.IdHashItem g.met.T.Key.Eq.laws).0 c.args.self.now c.search_all.ensures.apart
     (ranks g.T.IdHashItem g.T.Key.PartialEq.eq) c.args.item.now _
     (rw c.key.ensures at c.search_all.ensures.found) c.search_all.result c.search_all.ensures.some
 

@@ -16,17 +16,17 @@ rekey_into-requires-clause-free g c =
     free_slot ranks c.args.self.now.slots c.args.slot c.args.item c.requires c.in-Vacant.ensures.free
 
 pub unreachable-requires : goal.unreachable-requires
-unreachable-requires g c = some_found c.in-Found.ensures.blocked (no_slot (sym c.in_default.ensures))
+unreachable-requires g c = some_found c.in-Found.ensures.conflict (no_slot (sym c.in_default.ensures))
 
 pub returns-then-ne-clause-reason : goal.returns-then-ne-clause-reason
 returns-then-ne-clause-reason g c =
     let apart : c.in-Some.other ≢ c.args.slot = λ same. search rules in
-    other_conflicts c.in-Found.ensures.blocked (one_slot (sym c.in-Some.ensures)) apart
+    other_conflicts c.in-Found.ensures.conflict (one_slot (sym c.in-Some.ensures)) apart
 
 pub overwrite_one-requires-clause-free : goal.overwrite_one-requires-clause-free
 overwrite_one-requires-clause-free g c =
     let same : c.in-Some.other ≡ c.args.slot = search rules in
-    none_else c.in-Found.ensures.blocked (one_slot (sym c.in-Some.ensures) ∙ ap (λ (a : ℕ). a ∷ []) same)
+    none_else c.in-Found.ensures.conflict (one_slot (sym c.in-Some.ensures) ∙ ap (λ (a : ℕ). a ∷ []) same)
 
 pub returns-in-Vacant-clause-costs : goal.returns-in-Vacant-clause-costs
 returns-in-Vacant-clause-costs g c =

@@ -7,13 +7,13 @@ use Rattle.iddqd_store.specs.Slots.{contents}
 use Rattle.iddqd_store.specs.Table.Ring.{cell}
 use Rattle.iddqd_store.proofs.TableLemmas.Chunk.{chunk_next}
 use Rattle.iddqd_store.proofs.TableLemmas.Grow.{front_none, front_all}
-use Rattle.iddqd_store.proofs.TableLemmas.Limits.{held-empty}
+use Rattle.iddqd_store.proofs.TableLemmas.Limits.{held_items-empty}
 use Rattle.iddqd_store.proofs.TableLemmas.Regrow.{chunk_copied, copied_probes}
 use Rattle.iddqd_store.proofs.index_table.growth.regrown.Goals as goal
 
 pub loop-from-init : goal.loop-from-init
 loop-from-init c =
-    let pairs : contents (replicate {A = Option (ℕ × ℕ)} c.args.count None) ≡ [] = held-empty c.args.count in
+    let pairs : contents (replicate {A = Option (ℕ × ℕ)} c.args.count None) ≡ [] = held_items-empty c.args.count in
     rw c.in_ok-grown.ensures (record {
       front = front_none c.args.cells.now c.args.count c.requires.size;
       within = omega arith;

@@ -1,9 +1,9 @@
 -- Made by tests/widths from crates/iddqd_bi/proofs/map/BiHashMap/from_iter/Answers.antt: change that file.
 use Rattle.std.proofs.Common.{List, [], subst, rules}
 use Rattle.std.specs.Prelude.{IsPermutation}
-use Rattle.iddqd_store.specs.Bag.{overs}
+use Rattle.iddqd_store.specs.Bag.{with_items}
 use Rattle.iddqd_store.specs.Map.{bag}
-use Rattle.iddqd_store.proofs.BagLemmas.Building.{GivesThen-weaker, clash-none}
+use Rattle.iddqd_store.proofs.BagLemmas.Building.{GivesThen-weaker, conflicts_of-none}
 use Rattle.iddqd_store.proofs.MapLemmas.{at_err}
 use Rattle.iddqd_tri.proofs.map.TriHashMap.from_iter.Goals as goal
 
@@ -13,8 +13,8 @@ returns-in_err-extend-clause-refused g c =
     let x = c.in_err-extend.field-0.0.value in
     at_err c.from_residual.result c.in_err-extend.field-0.0 _ (search rules)
     (GivesThen-weaker g.I.IntoIterator.into_iter_gives g.I.IntoIter.Iterator.next_gives c.args.iter x _ _
-    (λ xs made. clash-none ranks (bag c.extend.new.self) (overs ranks [] xs) x
-    (subst (λ (l : List g.row.T.Denot). IsPermutation (bag c.extend.new.self) (overs ranks l xs)) c.default-map.ensures.empty made.0) c.in_err-extend.ensures.full.free)
+    (λ xs made. conflicts_of-none ranks (bag c.extend.new.self) (with_items ranks [] xs) x
+    (subst (λ (l : List g.row.T.Denot). IsPermutation (bag c.extend.new.self) (with_items ranks l xs)) c.default-map.ensures.empty made.0) c.in_err-extend.ensures.full.free)
     c.in_err-extend.ensures.refused)
 
 pub returns-clause-all : goal.returns-clause-all

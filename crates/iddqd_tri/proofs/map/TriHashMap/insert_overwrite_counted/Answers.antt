@@ -13,7 +13,7 @@ overwrite-displaced-requires g c =
     let arm = c.in-Err-Duplicate in
     let why = rw arm.field-0-is at arm.ensures.reason in
     let item = rw arm.field-0-is at arm.ensures.handed_back in
-    rw (item, arm.ensures.unchanged) record { conflicts = why.blocked.found; some = some_found why.blocked; hashes = why.hashes; hashed = why.hashed }
+    rw (item, arm.ensures.unchanged) record { conflicts = why.conflict.found; some = some_found why.conflict; hashes = why.hashes; hashed = why.hashed }
 
 pub returns-in-Ok-clause-displaced : goal.returns-in-Ok-clause-displaced
 returns-in-Ok-clause-displaced g c =

@@ -2,7 +2,7 @@
 //!
 //! Written by hand; tests/three_keys.patch says why.
 ghost use Rattle.std.specs.Prelude.{◌≡◌, ◌≢◌, ◌+◌, ◌≤◌, [], ◌∷◌, length, None, Some, slice_set};
-ghost use Rattle.iddqd_store.specs.Bag.{clash};
+ghost use Rattle.iddqd_store.specs.Bag.{conflicts_of};
 ghost use Rattle.iddqd_store.specs.Map.{bag, PutsAt};
 ghost use Rattle.iddqd_store.specs.Rank.All.{AreHashed, HaveHashes, hashes_of};
 ghost use Rattle.iddqd_store.specs.Rank.{merge_three_walks, walks_within};
@@ -27,7 +27,7 @@ impl<T: TriHashItem, S: BuildHasher> TriHashMap<T, S> {
     ) -> (T, T, T)
         requires live { IsLive self.old.slots slots.0 × IsLive self.old.slots slots.1 × IsLive self.old.slots slots.2 }
         requires apart { (slots.0 ≢ slots.1) × (slots.0 ≢ slots.2) × (slots.1 ≢ slots.2) }
-        requires free { clash ⟦<T as Ranked>⟧.ranks (contents
+        requires free { conflicts_of ⟦<T as Ranked>⟧.ranks (contents
             (slice_set (slice_set (slice_set self.old.slots slots.2 None) slots.1 None) slots.0 None)) item ≡ [] }
         requires hashes { HaveHashes
             (hashes_of (⟦<T as Hashed<S>>⟧.hashes self.old.builder) item) (found.now.0 ∷ found.now.1 ∷ found.now.2 ∷ []) }

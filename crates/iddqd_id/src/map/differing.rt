@@ -1,0 +1,41 @@
+//! What differs between two maps. If items have several keys, an item may keep one of them and change another. So there
+//! is a call for each key, which pairs the items off by that key alone.
+//!
+//! Made by tests/widths from crates/iddqd_bi/src/map/differing.rt: change that file.
+ghost use Rattle.std.specs.Prelude.{IfOk};
+ghost use Rattle.iddqd_store.specs.Differing.{IsDifference};
+ghost use Rattle.iddqd_store.specs.Map.{bag};
+ghost use Rattle.iddqd_store.specs.Rank.{agree};
+
+use super::IdHashMap;
+use crate::item::IdHashItem;
+use iddqd_store::{Costs, Difference};
+use std::alloc::{AllocError, Global};
+use std::hash::{BuildHasher, Hash};
+
+impl<T: IdHashItem, S: BuildHasher> IdHashMap<T, S> {
+    /// Returns what differs between this map, the old one, and a new one: the items that were added, those that were
+    /// removed, and the others in pairs with equal keys. The result borrows the items.
+    ///
+    /// An item whose key changed was removed and added. An item that keeps its key is in a pair, whatever
+    /// else changed. To change the old map into the new one, remove all items that go or are replaced before you insert
+    /// any, so that no key is still taken.
+    ///
+    /// The call hashes the key of each item of either map once, and searches for it once in the other map. Each
+    /// search compares at most as many keys as items of the other map have that hash. The three lists grow as items
+    /// come, and an empty one allocates nothing. If an allocation fails, the call returns the error. The maps do not
+    /// change.
+    ///
+    /// ```text
+    /// let difference = old.diff(&new, rt.alloc())?;
+    /// for item in &difference.added {
+    ///     // No item of the old map has the key of this one.
+    /// }
+    /// ```
+    pub fn diff<'a>(&'a self, new: &'a Self, alloc: Global) -> Result<Difference<'a, T>, AllocError>
+        ensures { IfOk result (IsDifference (agree T.key T.Key.eq) (bag self.now) (bag new.now)) }
+    {
+        self.by_key()
+            .difference(&new.by_key(), alloc, &mut Costs::new())
+    }
+}
