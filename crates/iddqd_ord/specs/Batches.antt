@@ -3,9 +3,9 @@
 use Rattle.std.specs.Prelude.{◌≡◌, ℕ, false, List, [], ◌∷◌, Some, ⊤, map, slice_get, IsPermutation}
 use Rattle.std.specs.List.{list_any}
 use Rattle.std.specs.declared.cmp.Ordering.{Ordering}
-use Rattle.iddqd_ord.specs.Items.{like, put}
+use Rattle.iddqd_ord.specs.Items.{has_key_of, with_item}
 use Rattle.iddqd_ord.specs.Ordered.{IsAscending}
-use Rattle.iddqd_ord.specs.Puts.{puts}
+use Rattle.iddqd_ord.specs.Extensions.{with_items}
 use Rattle.iddqd_ord.specs.declared.item.IdOrdItem as item
 
 module _ {T Key : Type 0} (of : item.Ghosts T Key) (cmp : Key → Key → Ordering) where
@@ -13,12 +13,12 @@ module _ {T Key : Type 0} (of : item.Ghosts T Key) (cmp : Key → Key → Orderi
   -- Example: It holds for 3, 5 and the list 4, 1.
   abbrev pub AreFree : List T → List T → Type 0
   AreFree held [] = ⊤
-  AreFree held (x ∷ xs) = (list_any (like of cmp x) held ≡ false) × AreFree (put of cmp held x) xs
+  AreFree held (x ∷ xs) = (list_any (has_key_of of cmp x) held ≡ false) × AreFree (with_item of cmp held x) xs
 
   -- The numbers name the items of the list in the ascending order of their keys. No two of the items have an equal key. No public
   -- clause cites it.
   -- Example: For the list 5, 3, 7 the numbers are 1, 0, 2.
   pub record IsOrderOf (list : List T) (numbers : List ℕ) : Type 0 where
-    pub picks : map (slice_get list) numbers ≡ map Some (puts of cmp [] list)
-    pub ascending : IsAscending cmp of.key (puts of cmp [] list)
-    pub same : IsPermutation (puts of cmp [] list) list
+    pub picks : map (slice_get list) numbers ≡ map Some (with_items of cmp [] list)
+    pub ascending : IsAscending cmp of.key (with_items of cmp [] list)
+    pub same : IsPermutation (with_items of cmp [] list) list

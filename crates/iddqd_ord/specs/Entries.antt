@@ -6,12 +6,12 @@ use Rattle.std.specs.declared.cmp.Ord as ord
 use Rattle.std.specs.declared.cmp.PartialEq as equal
 use Rattle.std.specs.declared.cmp.PartialOrd as partial
 use mir.Syntax.{named}
-use Rattle.iddqd_ord.specs.Items.{items, has, Gains}
+use Rattle.iddqd_ord.specs.Items.{OrdMap, items, has, Gains}
 use Rattle.iddqd_ord.specs.Mismatch.{HandsBack}
 use Rattle.iddqd_ord.specs.Lent.{map_row}
 use Rattle.iddqd_ord.specs.Writing.{map_with}
 use Rattle.iddqd_ord.specs.RefMuts.{ref_item, ref_lender, ref_map}
-use Rattle.iddqd_order.specs.Row.{Order, position, HasEntry}
+use Rattle.iddqd_order.specs.Row.{position, HasEntry}
 use Rattle.iddqd_ord.specs.declared.item.IdOrdItem as item
 use Rattle.iddqd_ord.specs.declared.query.OrdQuery as query
 use Rattle.iddqd_ord.specs.declared.entry.Entry.{Entry}
@@ -80,10 +80,10 @@ module _ {T Key : Type 0} {of : item.Ghosts T Key} {order : ord.Ghosts Key} {eq 
 module _ {T Q Key : Type 0} {of : item.Ghosts T Key} {order : ord.Ghosts Key} {eq : equal.Ghosts Key} {some_order : partial.Ghosts Key}
     {q : query.Ghosts Q Key} where
   module _ (v : VacantEntry T Q Key of order eq some_order q) where
-    -- `wanted` tells whether an item has the key of the vacant entry.
+    -- `vacant_test` tells whether an item has the key of the vacant entry.
     -- Example: No item of the map passes it.
-    abbrev pub wanted : T → Bool
-    wanted = has of q.compare v.query
+    abbrev pub vacant_test : T → Bool
+    vacant_test = has of q.compare v.query
 
     -- The item `x` was inserted into this very map (`Gains`), and the guard `r` borrows it.
     -- Example: A map of 3, 7 becomes 3, 5, 7, and `ref_item r` is `Some 5`.
@@ -105,10 +105,10 @@ module _ {T Q Key : Type 0} {of : item.Ghosts T Key} {order : ord.Ghosts Key} {e
     -- Example: If `x` has another key than the entry, the error is `Key x`.
     pub record PutsIn (x : T) (result : Result (RefMut T Key of order eq some_order) (EntryRefusal T Key)) : Type 0 where
       pub gains_and_lends : IfOk result (GainsAndLends x)
-      pub same_key : OnOk result (wanted x ≡ true)
-      pub granted : wanted x ≡ true → length (items v.map.now) < v.map.now.capacity → IsOk result
+      pub same_key : OnOk result (vacant_test x ≡ true)
+      pub granted : vacant_test x ≡ true → length (items v.map.now) < v.map.now.capacity → IsOk result
       pub unchanged : IfErr result (λ refusal. refusal.map.now ≡ v.map.now)
-      pub hands_back : IfErr result (λ refusal. HandsBack of order.cmp wanted v.map.now x refusal.error)
+      pub hands_back : IfErr result (λ refusal. HandsBack of order.cmp vacant_test v.map.now x refusal.error)
 
     -- The item `x`, which a closure made, was inserted into the map of the vacant entry and is lent (`GainsAndLends`), or the
     -- error is that of the entry and returns it (`HandsBack`). The call succeeds if `x` has the key of the entry and the map
@@ -116,9 +116,9 @@ module _ {T Q Key : Type 0} {of : item.Ghosts T Key} {order : ord.Ghosts Key} {e
     -- Example: If `x` has another key than the entry, the error is `Insert (Key x)`.
     pub record PutsMadeIn {E : Type 0} (x : T) (result : Result (RefMut T Key of order eq some_order) (TryEntryRefusal T E Key)) : Type 0 where
       pub gains_and_lends : IfOk result (GainsAndLends x)
-      pub same_key : OnOk result (wanted x ≡ true)
-      pub granted : wanted x ≡ true → length (items v.map.now) < v.map.now.capacity → IsOk result
-      pub hands_back : IfErr result (λ refusal. IsInsert refusal.error (HandsBack of order.cmp wanted v.map.now x))
+      pub same_key : OnOk result (vacant_test x ≡ true)
+      pub granted : vacant_test x ≡ true → length (items v.map.now) < v.map.now.capacity → IsOk result
+      pub hands_back : IfErr result (λ refusal. IsInsert refusal.error (HandsBack of order.cmp vacant_test v.map.now x))
 
     -- The item that the closure made is inserted (`PutsMadeIn`), or the closure's error is returned (`FailsAsClosure`).
     -- Example: If it returned `Ok x`, and `x` has the key of the entry, then `x` is in the map unless that was full.
@@ -132,7 +132,7 @@ module _ {T Q Key : Type 0} {of : item.Ghosts T Key} {order : ord.Ghosts Key} {e
   entry_lender (Occupied o) = o.map.ghost_name
 
   -- `entry_map` is the map of the entry.
-  abbrev pub entry_map : Entry T Q Key of order eq some_order q → Order T
+  abbrev pub entry_map : Entry T Q Key of order eq some_order q → OrdMap T
   entry_map (Vacant v) = v.map.now
   entry_map (Occupied o) = o.map.now
 
@@ -185,5 +185,5 @@ module _ (T Key : RattleType) (of : item.Ghosts T.Denot Key.Denot) (keys : OrdMe
 module _ (T Key : RattleType) {of : item.Ghosts T.Denot Key.Denot} {order : ord.Ghosts Key.Denot} {eq : equal.Ghosts Key.Denot} {some_order : partial.Ghosts Key.Denot} where
   -- If the call failed, the map ends as it was. Otherwise it ends as the guard leaves it.
   -- Example: After an error a map of 3, 5 ends as 3, 5.
-  abbrev pub rests_if_err : {E : Type 0} → MutBor (Order T.Denot) → Result (RefMut T.Denot Key.Denot of order eq some_order) E → Fml
+  abbrev pub rests_if_err : {E : Type 0} → MutBor (OrdMap T.Denot) → Result (RefMut T.Denot Key.Denot of order eq some_order) E → Fml
   rests_if_err m r = RestsIfErr (ord_row T Key of order eq some_order) m ref_lender r (λ n. n ≡ m.now)

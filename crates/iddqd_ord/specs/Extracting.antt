@@ -12,10 +12,10 @@ pub record IsAtStart (at : Place) : Type 0 where
   pub offset : at.offset ≡ 0
 
 module _ {T : Type 0} where
-  -- `passed` lists the items before the cursor.
+  -- `passed_items` lists the items before the cursor.
   -- Example: For 3, 5, 7 and a cursor that has passed 3 it is 3.
-  abbrev pub passed : OrdMap T → Place → List T
-  passed m at = take (position m.blocks at) (items m)
+  abbrev pub passed_items : OrdMap T → Place → List T
+  passed_items m at = take (position m.blocks at) (items m)
 
   -- `to_come` lists the items from the cursor on.
   -- Example: For 3, 5, 7 and a cursor that has passed 3 it is 5, 7.
@@ -26,15 +26,15 @@ module _ {T : Type 0} where
   -- Example: From the start on, 3 leaves 3, 5, 7 first. Then no item is before the cursor, and 5, 7 are to come.
   pub record PopsFrom (m : OrdMap T) (from : Place) (o : Option T) (n : OrdMap T) (to : Place) : Type 0 where
     pub comes : to_come m from ≡ option_to_list o ++ to_come n to
-    pub before : passed n to ≡ passed m from
+    pub before : passed_items n to ≡ passed_items m from
     pub none_left : IfNone o (to_come n to ≡ [])
-    pub lists : items n ≡ passed n to ++ to_come n to
+    pub lists : items n ≡ passed_items n to ++ to_come n to
 
   -- The next item from the cursor on is `x`, and once written it is the last item before the cursor. Those after it stay.
   -- Example: A cursor that has passed 3 of 3, 5, 7 passes 5.
   pub record Passes (m : OrdMap T) (from : Place) (x : T) (written : (T → T) → OrdMap T) (to : Place) : Type 0 where
     pub comes : to_come m from ≡ x ∷ to_come m to
-    pub before : (f : T → T) → passed (written f) to ≡ passed m from ++ f x ∷ []
+    pub before : (f : T → T) → passed_items (written f) to ≡ passed_items m from ++ f x ∷ []
     pub behind : (f : T → T) → to_come (written f) to ≡ to_come m to
 
   -- The items from the cursor on were tested, up to the first that passes, which is `o` and left. So what is still to be taken out is
@@ -43,7 +43,7 @@ module _ {T : Type 0} where
   pub record IsExtracted (test : T → Bool) (m : OrdMap T) (from : Place) (o : Option T) (n : OrdMap T) (to : Place) : Type 0 where
     pub passes : IfSome o (λ x. test x ≡ true)
     pub taken : filter test (to_come m from) ≡ option_to_list o ++ filter test (to_come n to)
-    pub left : passed m from ++ filter (λ x. not (test x)) (to_come m from) ≡ passed n to ++ filter (λ x. not (test x)) (to_come n to)
+    pub left : passed_items m from ++ filter (λ x. not (test x)) (to_come m from) ≡ passed_items n to ++ filter (λ x. not (test x)) (to_come n to)
 
 module _ {F T : Type 0} (step : F → T → Bool → F → Type 0) where
   -- The closure `f` was called once with each item from the index `from` on, in turn, up to the first for which it returned `true`,
@@ -67,9 +67,9 @@ module _ {F T : Type 0} (step : F → T → Bool → F → Type 0) where
     pub rejects : Rejects step f rejected state
     pub accepts : IfSome o (λ x. (g : F) × step state x true g)
     pub comes : to_come m from ≡ rejected ++ (option_to_list o ++ to_come n to)
-    pub before : passed n to ≡ passed m from ++ rejected
+    pub before : passed_items n to ≡ passed_items m from ++ rejected
     pub none_left : IfNone o (to_come n to ≡ [])
-    pub lists : items n ≡ passed n to ++ to_come n to
+    pub lists : items n ≡ passed_items n to ++ to_come n to
 
   -- For each test that tells what the closure returns at an item, where no call changes the closure `f`, the items were tested
   -- (`IsExtracted`).

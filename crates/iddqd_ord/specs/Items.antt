@@ -5,25 +5,25 @@ use Rattle.std.specs.Ordering.{is_lt, is_eq, is_gt, is_le, is_ge}
 use Rattle.std.specs.declared.cmp.Ordering.{Ordering}
 use Rattle.std.specs.declared.ops.Bound.{Bound}
 use Rattle.std.specs.declared.ops.Bound.TheVariants.{Included, Excluded, Unbounded}
-use Rattle.iddqd_order.specs.Row.{Order, line}
+use Rattle.iddqd_order.specs.Row.{BlocksValue, line}
 use Rattle.iddqd_ord.specs.declared.item.IdOrdItem as item
 
 -- Contracts see a map as the blocks in which its items stand, and how many items fit. Public clauses cite the blocks only as
 -- `items`.
 -- Example: The one block 3, 5, and the capacity 4.
 abbrev pub OrdMap : Type 0 → Type 0
-OrdMap T = Order T
+OrdMap T = BlocksValue T
 
 -- `items` lists the items of the map in ascending order of their keys.
 -- Example: For the blocks [3], [5] it is 3, 5.
-abbrev pub items : {T : Type 0} → Order T → List T
+abbrev pub items : {T : Type 0} → OrdMap T → List T
 items m = line m.blocks
 
 module _ {T Key : Type 0} (of : item.Ghosts T Key) where
-  -- `sought` compares the key of an item with what a query seeks.
+  -- `query_comparison` compares the key of an item with what a query seeks.
   -- Example: For the query 5 and the item 3 it is `Less`.
-  abbrev pub sought : {Q : Type 0} → (Q → Key → Ordering) → Q → T → Ordering
-  sought compare q x = compare q (of.key x)
+  abbrev pub query_comparison : {Q : Type 0} → (Q → Key → Ordering) → Q → T → Ordering
+  query_comparison compare q x = compare q (of.key x)
 
   -- `has` tells whether an item has the key that a query seeks.
   -- Example: For the query 5 it is true of the item 5 alone.
@@ -31,25 +31,25 @@ module _ {T Key : Type 0} (of : item.Ghosts T Key) where
   has compare q x = is_eq (compare q (of.key x))
 
   module _ (cmp : Key → Key → Ordering) where
-    -- `against` compares the key of an item with that of `x`.
+    -- `key_comparison` compares the key of an item with that of `x`.
     -- Example: For `x` 5 and the item 3 it is `Less`.
-    abbrev pub against : T → T → Ordering
-    against x y = cmp (of.key y) (of.key x)
+    abbrev pub key_comparison : T → T → Ordering
+    key_comparison x y = cmp (of.key y) (of.key x)
 
-    -- `like` tells whether an item has a key equal to that of `x`.
+    -- `has_key_of` tells whether an item has a key equal to that of `x`.
     -- Example: For `x` 5 it is true of the item 5 alone.
-    abbrev pub like : T → T → Bool
-    like x y = is_eq (cmp (of.key y) (of.key x))
+    abbrev pub has_key_of : T → T → Bool
+    has_key_of x y = is_eq (cmp (of.key y) (of.key x))
 
-    -- `put` lists the items with lower keys than `x`, then `x`, and then those with higher keys.
+    -- `with_item` lists the items with lower keys than `x`, then `x`, and then those with higher keys.
     -- Example: For 3, 5, 7 and 4 it is 3, 4, 5, 7. An item 5 takes the place of the one that has its key.
-    abbrev pub put : List T → T → List T
-    put xs x = filter (λ y. is_lt (cmp (of.key y) (of.key x))) xs ++ x ∷ filter (λ y. is_gt (cmp (of.key y) (of.key x))) xs
+    abbrev pub with_item : List T → T → List T
+    with_item xs x = filter (λ y. is_lt (cmp (of.key y) (of.key x))) xs ++ x ∷ filter (λ y. is_gt (cmp (of.key y) (of.key x))) xs
 
     -- The map has the item besides all that it had, and they fit. The capacity grows only if the map was full.
     -- Example: A map of 3, 5 with the capacity 4 gains 4, and has 3, 4, 5 and the capacity 4 then. It cannot gain another 5.
     pub record Gains (old : OrdMap T) (x : T) (new : OrdMap T) : Type 0 where
-      pub lists : items new ≡ put (items old) x
+      pub lists : items new ≡ with_item (items old) x
       pub more : length (items new) ≡ length (items old) + 1
       pub no_less_room : old.capacity ≤ new.capacity
       pub same_room : length (items old) < old.capacity → new.capacity ≡ old.capacity
@@ -58,7 +58,7 @@ module _ {T Key : Type 0} (of : item.Ghosts T Key) where
     -- No item has the key of `x`, and the map is full.
     -- Example: A map of 3, 5 with the capacity 2 is full for 4, and not for 3.
     pub record IsFullFor (m : OrdMap T) (x : T) : Type 0 where
-      pub free : list_any (like x) (items m) ≡ false
+      pub free : list_any (has_key_of x) (items m) ≡ false
       pub full : length (items m) ≡ m.capacity
 
   -- `is_from` tells whether an item is not before a bound.
@@ -75,10 +75,10 @@ module _ {T Key : Type 0} (of : item.Ghosts T Key) where
   is_to compare (Excluded q) x = is_lt (compare q (of.key x))
   is_to compare Unbounded x = true
 
-  -- `within` tells whether an item is between two bounds.
+  -- `is_within` tells whether an item is between two bounds.
   -- Example: Between `Included 3` and `Excluded 5` are 3 and 4.
-  abbrev pub within : {Q : Type 0} → (Q → Key → Ordering) → Bound Q → Bound Q → T → Bool
-  within compare low high x = is_from compare low x && is_to compare high x
+  abbrev pub is_within : {Q : Type 0} → (Q → Key → Ordering) → Bound Q → Bound Q → T → Bool
+  is_within compare low high x = is_from compare low x && is_to compare high x
 
 -- After `Ok`, `more` items fit beside those that are there. The call fails only if they did not fit before it. The
 -- capacity grows only if they did not fit, and then to no more than is asked for, or twice what it was, or 4.

@@ -2,6 +2,7 @@ pub mod Batches
 pub mod Between
 pub mod Calls
 pub mod Entries
+pub mod Extensions
 pub mod Extracting
 pub mod InsertErrors
 pub mod Inserts
@@ -10,7 +11,6 @@ pub mod IterMuts
 pub mod Lent
 pub mod Mismatch
 pub mod Ordered
-pub mod Puts
 pub mod Queries
 pub mod RefMuts
 pub mod Rekeyed
@@ -22,3 +22,4 @@ pub use Rattle.iddqd_store.specs.Bag
 pub use Rattle.iddqd_store.specs.Bag.Building
 pub use Rattle.iddqd_store.specs.Bag.Calling
 pub use Rattle.iddqd_store.specs.Bag.Storing
+pub use Rattle.iddqd_store.specs.Differing

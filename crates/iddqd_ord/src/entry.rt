@@ -1,7 +1,7 @@
 //! Entries: what a lookup found, with a borrow of the map.
-ghost use Rattle.iddqd_ord.specs.Items.{items, sought};
-ghost use Rattle.iddqd_ord.specs.Ordered.{IsSplit};
+ghost use Rattle.iddqd_ord.specs.Items.{items, query_comparison};
 ghost use Rattle.iddqd_order.specs.Row.{position, IsPlace};
+ghost use Rattle.iddqd_order.specs.Search.{IsSplit};
 
 use crate::item::IdOrdItem;
 use crate::map::IdOrdMap;
@@ -32,7 +32,7 @@ pub struct VacantEntry<'a, T: IdOrdItem, Q: OrdQuery<T::Key> = &'a <T as IdOrdIt
     pub(crate) query: Q,
     pub(crate) place: Place,
     ghost at: { IsPlace map.now.blocks place },
-    ghost absent: { IsSplit (sought T.IdOrdItem Q.compare query) (items map.now) (position map.now.blocks place) 0 },
+    ghost absent: { IsSplit (query_comparison T.IdOrdItem Q.compare query) (items map.now) (position map.now.blocks place) 0 },
 }
 
 /// An entry of an item of the map: the one with a key that was looked up, or the first or the last one. It keeps the

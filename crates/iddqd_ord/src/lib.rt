@@ -21,6 +21,7 @@ mod map;
 mod pointers;
 mod query;
 mod ref_mut;
+mod rows;
 
 pub use cursor::Cursor;
 pub use entry::{Entry, OccupiedEntry, TryEntryError, TryEntryRefusal, VacantEntry};
@@ -31,13 +32,13 @@ pub use error::{
 pub use iddqd_order::{IntoIter, Iter};
 pub use item::{IdOrdItem, IdOrdItemMut};
 pub use iter_mut::IterMut;
-pub use made::{InOrder, KeyOrder, WithKeys, WithMadeKeys};
+pub use made::{InOrder, KeepsOrder, KeyOrder, WithKeys, WithMadeKeys};
 pub use map::{ClonesKeys, IdOrdMap};
 pub use query::{First, FirstTwo, OrdQuery, OrdRange, OrdSeek, Prefix};
 pub use ref_mut::RefMut;
 
 // Types of `iddqd_store` that the signatures of this crate name.
 pub use iddqd_store::{
-    ByMade, ByPair, DuplicateItem, Holds, InsertReason, LendsPair, Made, MakesKey, MemoryRefused,
-    TryReserveError,
+    ByMade, ByPair, Difference, DuplicateItem, HasData, Holds, InsertReason, ItemPair, KeepsMade,
+    KeepsPair, LendsPair, Made, MakesKey, MemoryRefused, Row1, TryReserveError,
 };

@@ -13,7 +13,10 @@ use std::fmt::{self, Debug, Formatter, Write};
 use std::marker::Model;
 use std::ops::Deref;
 
+mod data;
 mod queries;
+
+pub use data::KeepsOrder;
 
 /// A value that is known by a key that has an order, and that it makes or lends: `ByMade` and `ByPair`.
 pub trait KeyOrder {
@@ -115,6 +118,9 @@ impl<K: KeyOrder> Ord for InOrder<K> {
 /// the item, and contracts see the item. Its `==` is that of items, and not of keys.
 ///
 /// It takes no memory beside the item, and its own calls allocate none. The key is made or lent anew for each comparison.
+///
+/// If the item has data (`HasData`), and makes or lends the same key whatever this data is (`KeepsMade`, `KeepsPair`), a map
+/// writes its data in place, as that of any item.
 #[derive(Clone, Drop)]
 pub struct WithKeys<K> {
     key: InOrder<K>,

@@ -10,6 +10,8 @@ mod clone;
 mod collect;
 mod compare;
 mod data;
+mod differing;
+mod emptied;
 mod ends;
 mod ends_mut;
 mod entries;
@@ -50,12 +52,12 @@ pub struct IdOrdMap<T: IdOrdItem> {
 }
 
 impl<T: IdOrdItem> Model for IdOrdMap<T> {
-    ghost use Rattle.iddqd_order.specs.Row.{Order, order_code, line};
+    ghost use Rattle.iddqd_order.specs.Row.{BlocksValue, blocks_code, line};
     ghost use Rattle.iddqd_ord.specs.Ordered.{IsAscending};
 
-    ghost Value = { Order T };
+    ghost Value = { BlocksValue T };
 
-    ghost coded = { order_code T.code };
+    ghost coded = { blocks_code T.code };
 
     ghost view = { λ m. m.items };
 

@@ -1,6 +1,6 @@
-pub mod Clones
-pub mod Cutting
-pub mod Iters
-pub mod Lines
-pub mod Parts
-pub mod Places
+pub mod CloneLemmas
+pub mod IterLemmas
+pub mod LineLemmas
+pub mod PartLemmas
+pub mod PlaceLemmas
+pub mod SearchLemmas

@@ -17,11 +17,11 @@ pub(crate) struct Block<E> {
 
 impl<E> Model for Block<E> {
     ghost use Rattle.std.specs.Prelude.{vec_capacity};
-    ghost use Rattle.iddqd_order.specs.Row.{Run, run_code};
+    ghost use Rattle.iddqd_order.specs.Row.{BlockValue, block_code};
 
-    ghost Value = { Run E };
+    ghost Value = { BlockValue E };
 
-    ghost coded = { run_code E.code };
+    ghost coded = { block_code E.code };
 
     ghost view = { λ b. record { entries = b.entries.items; room = vec_capacity b.entries } };
 }

@@ -1,30 +1,30 @@
-//! Entries in an order, and their places.
-ghost use Rattle.std.specs.Prelude.{◌≡◌, ℕ, ◌+◌, ◌*◌, ◌-◌, ◌^◌, ◌<◌, ◌≤◌, [], length, slice_set, slice_index_or, slice_range, All, IsOk, IfOk, IfErr, IfSome, OnOk, OnErr, MatchOption};
+//! Entries in order, and their places.
+ghost use Rattle.std.specs.Prelude.{◌≡◌, ℕ, ◌+◌, ◌*◌, ◌-◌, ◌^◌, ◌<◌, ◌≤◌, [], length, slice_set, slice_index_or, slice_range, All, IsOk, IfOk, IfErr, OnOk, OnErr};
 ghost use Rattle.std.specs.Borrow.{sem};
 ghost use Rattle.std.specs.List.{insert, remove};
-ghost use Rattle.iddqd_order.specs.Row.{line, entries_in, position, index_of, with_entry, IsPlace, HasEntry};
-ghost use Rattle.iddqd_order.specs.Cut.{IsSearchable, IsFound, IsGap};
+ghost use Rattle.iddqd_order.specs.Row.{line, entries_in, position, with_entry, IsPlace, HasEntry};
+ghost use Rattle.iddqd_order.specs.Search.{IsSearchable, IsLastEqual, IsSplit};
 
 use self::reserve::settle;
 use crate::block::Block;
 use crate::into_iter::IntoIter;
 use crate::iter::Iter;
 use crate::place::Place;
-use crate::probe::Probe;
 use crate::row::BlockRow;
 use crate::search;
+use crate::search::Compare;
 use iddqd_store::Meter;
 use std::alloc::{AllocError, Global};
 use std::marker::Model;
 
 mod clone;
-mod indices;
 mod joins;
+mod places;
 mod reserve;
 mod shifts;
 mod splits;
 
-/// Entries in an order. Contracts see the blocks in which they stand; the order is their `line`.
+/// Entries in order. Contracts see the blocks in which they stand; the list of the entries is their `line`.
 ///
 /// A block has memory for 16 to 128 entries, as its maker says. While there is but one, its memory doubles. A block
 /// is asked for only where one is full. Below the capacity no insert needs memory: if a block is full, no block is spare, and
@@ -43,21 +43,21 @@ pub struct Blocks<E> {
 }
 
 impl<E> Model for Blocks<E> {
-    ghost use Rattle.iddqd_order.specs.Row.{Order, order_code, IsOrder};
+    ghost use Rattle.iddqd_order.specs.Row.{BlocksValue, blocks_code, AreBlocks};
 
-    ghost Value = { Order E };
+    ghost Value = { BlocksValue E };
 
-    ghost coded = { order_code E.code };
+    ghost coded = { blocks_code E.code };
 
     ghost view = { λ o. record { blocks = o.row.blocks; capacity = o.capacity } };
 
-    ghost invariant = { λ o. IsOrder o.row o.kept o.count o.capacity };
+    ghost invariant = { λ o. AreBlocks o.row o.kept o.count o.capacity };
 }
 
 impl<E> Blocks<E> {
     ghost use Rattle.iddqd_order.specs.Lends.{lends_entry};
 
-    /// Makes an order of no entries, with blocks for so many entries. It allocates nothing.
+    /// Makes `Blocks` of no entries, with at most so many entries in a block. It allocates nothing.
     pub fn new(alloc: Global, most: usize) -> Blocks<E>
         requires low { 16 ≤ most }
         requires high { most ≤ 128 }
@@ -73,7 +73,7 @@ impl<E> Blocks<E> {
         }
     }
 
-    /// Makes an order of no entries into which exactly `count` fit. If that is refused, all memory goes back.
+    /// Makes `Blocks` of no entries into which exactly `count` fit. If that is refused, all memory goes back.
     pub fn with_capacity(alloc: Global, most: usize, count: usize) -> Result<Blocks<E>, AllocError>
         requires low { 16 ≤ most }
         requires high { most ≤ 128 }
@@ -81,13 +81,13 @@ impl<E> Blocks<E> {
         ensures capacity { IfOk result (λ o. o.capacity ≡ count) }
         ensures never_refused { count ≡ 0 → IsOk result }
     {
-        let mut order = Blocks::new(alloc, most);
-        if let Err(refused) = order.try_reserve(count) {
-            order.free();
+        let mut blocks = Blocks::new(alloc, most);
+        if let Err(refused) = blocks.try_reserve(count) {
+            blocks.free();
             return Err(refused);
         }
-        order.capacity = count;
-        Ok(order)
+        blocks.capacity = count;
+        Ok(blocks)
     }
 
     /// Gives the memory back. There must be no entries.
@@ -126,144 +126,37 @@ impl<E> Blocks<E> {
         self.capacity
     }
 
-    /// Searches for what a probe seeks. `Ok` has its place, and `Err` the place at which it would go.
+    /// Searches for what is sought. `Ok` has its place, and `Err` the place at which it would go.
     ///
-    /// Among fewer than `4 ^ r` entries the probe is asked at most `3 * r + 19` times.
-    pub fn search<P: Probe<E>>(&self, probe: &P, meter: &mut Meter) -> Result<Place, Place>
-        requires asks { All (P.MayAsk probe.now) (entries_in self.now) }
-        requires ordered { IsSearchable (P.order probe.now) (entries_in self.now) }
+    /// Among fewer than `4 ^ r` entries it compares at most `3 * r + 19` times.
+    pub fn search<C: Compare<E>>(&self, sought: &C, meter: &mut Meter) -> Result<Place, Place>
+        requires asks { All (C.MayAsk sought.now) (entries_in self.now) }
+        requires ordered { IsSearchable (C.order sought.now) (entries_in self.now) }
         ensures entry { IfOk result (HasEntry self.now.blocks) }
-        ensures found { IfOk result (λ p. IsFound (P.order probe.now) (entries_in self.now) (position self.now.blocks p)) }
+        ensures found { IfOk result (λ p. IsLastEqual (C.order sought.now) (entries_in self.now) (position self.now.blocks p)) }
         ensures place { IfErr result (IsPlace self.now.blocks) }
-        ensures gap { IfErr result (λ p. IsGap (P.order probe.now) (entries_in self.now) (position self.now.blocks p)) }
+        ensures gap { IfErr result (λ p. IsSplit (C.order sought.now) (entries_in self.now) (position self.now.blocks p) 0) }
+        ensures fits { length (entries_in self.now) ≤ self.now.capacity }
         ensures asked { (r : ℕ) → length (entries_in self.now) < 4 ^ r → meter.new ≤ meter.old + (3 * r + 19) }
     {
-        search::search(&self.row, probe, meter)
+        search::search(&self.row, sought, meter)
     }
 
     /// Returns the entry at this place.
-    pub fn entry_at(&self, place: Place) -> &E
+    pub fn entry_in(&self, place: Place) -> &E
         requires { HasEntry self.now.blocks place }
         ensures value { (d : E) → result.now ≡ slice_index_or (entries_in self.now) (position self.now.blocks place) d }
         ensures within { position self.now.blocks place < length (entries_in self.now) }
     {
-        self.row.entry_at(place)
+        self.row.entry_in(place)
     }
 
     /// Returns the entry at this place, or `None` if none stands there.
     pub fn entry_if(&self, place: Place) -> Option<&E> {
         if place.block < self.row.len() && place.offset < self.row.len_at(place.block) {
-            return Some(self.row.entry_at(place));
+            return Some(self.row.entry_in(place));
         }
         None
-    }
-
-    /// Returns the place of the entry at this place or, if none stands there, of the next one.
-    pub fn at_or_after(&self, place: Place) -> Option<Place>
-        requires { IsPlace self.now.blocks place }
-        ensures entry { IfSome result (HasEntry self.now.blocks) }
-        ensures index { index_of self.now.blocks result ≡ position self.now.blocks place }
-    {
-        let blocks = self.row.len();
-        if blocks <= place.block {
-            return None;
-        }
-        if place.offset < self.row.len_at(place.block) {
-            return Some(place);
-        }
-        if place.block + 1 < blocks {
-            return Some(Place {
-                block: place.block + 1,
-                offset: 0,
-            });
-        }
-        None
-    }
-
-    /// Returns the place of the first entry, or the end if there is none.
-    pub fn start(&self) -> Place
-        ensures place { IsPlace self.now.blocks result }
-        ensures first { position self.now.blocks result ≡ 0 }
-    {
-        Place {
-            block: 0,
-            offset: 0,
-        }
-    }
-
-    /// Returns the place of the first entry, or `None` if there is none.
-    pub fn first(&self) -> Option<Place>
-        ensures entry { IfSome result (HasEntry self.now.blocks) }
-        ensures index { index_of self.now.blocks result ≡ 0 }
-    {
-        self.at_or_after(self.start())
-    }
-
-    /// Returns the place of the next entry, or `None` if this is the last one.
-    pub fn next(&self, place: Place) -> Option<Place>
-        requires { HasEntry self.now.blocks place }
-        ensures entry { IfSome result (HasEntry self.now.blocks) }
-        ensures index { index_of self.now.blocks result ≡ position self.now.blocks place + 1 }
-    {
-        self.at_or_after(self.behind(place))
-    }
-
-    /// Returns the place behind this entry.
-    pub fn behind(&self, place: Place) -> Place
-        requires { HasEntry self.now.blocks place }
-        ensures place { IsPlace self.now.blocks result }
-        ensures index { position self.now.blocks result ≡ position self.now.blocks place + 1 }
-    {
-        // The length of the block tells the prover that the offset can be counted.
-        let _ = self.row.len_at(place.block);
-        Place {
-            block: place.block,
-            offset: place.offset + 1,
-        }
-    }
-
-    /// Returns the place of the entry before this place, or `None` if there is none.
-    pub fn previous(&self, place: Place) -> Option<Place>
-        requires { IsPlace self.now.blocks place }
-        ensures entry { IfSome result (HasEntry self.now.blocks) }
-        ensures index { MatchOption result (position self.now.blocks place ≡ 0)
-            (λ p. position self.now.blocks p + 1 ≡ position self.now.blocks place) }
-    {
-        if 0 < place.offset {
-            return Some(Place {
-                block: place.block,
-                offset: place.offset - 1,
-            });
-        }
-        if place.block == 0 {
-            return None;
-        }
-        // The number of the blocks tells the prover that none is empty.
-        let _ = self.row.len();
-        Some(Place {
-            block: place.block - 1,
-            offset: self.row.len_at(place.block - 1) - 1,
-        })
-    }
-
-    /// Returns the place behind the last entry.
-    pub fn end(&self) -> Place
-        ensures place { IsPlace self.now.blocks result }
-        ensures last { position self.now.blocks result ≡ length (entries_in self.now) }
-    {
-        Place {
-            block: self.row.len(),
-            offset: 0,
-        }
-    }
-
-    /// Returns the place of the last entry, or `None` if there is none.
-    pub fn last(&self) -> Option<Place>
-        ensures entry { IfSome result (HasEntry self.now.blocks) }
-        ensures index { MatchOption result (entries_in self.now ≡ [])
-            (λ p. position self.now.blocks p + 1 ≡ length (entries_in self.now)) }
-    {
-        self.previous(self.end())
     }
 
     /// Inserts an entry before this place, and returns its place. It has to fit.
@@ -368,14 +261,16 @@ impl<E> Blocks<E> {
 
     /// Iterates over the entries, in order.
     pub fn iter(&self) -> Iter<'_, E>
-        ensures { result ≡ entries_in self.now }
+        ensures gives { result ≡ entries_in self.now }
+        ensures countable { length (entries_in self.now) < 2 ^ 64 }
     {
         Iter::all(&self.row, self.count)
     }
 
     /// Iterates over the entries by value, in order.
     pub fn into_iter(self) -> IntoIter<E>
-        ensures { result ≡ entries_in self }
+        ensures gives { result ≡ entries_in self }
+        ensures countable { length (entries_in self) < 2 ^ 64 }
     {
         let Blocks {
             alloc,

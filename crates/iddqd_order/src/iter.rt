@@ -3,7 +3,7 @@ ghost use Rattle.std.specs.Prelude.{◌≡◌, ◌-◌, ◌^◌, ◌<◌, ◌≤
 ghost use Rattle.std.specs.Option.{option_map};
 ghost use Rattle.std.specs.Iterator.{YieldsFirstRef, YieldsLastRef, UpTo, item_count};
 ghost use Rattle.std.specs.Iterator.SizeHint.{IsWithinCount};
-ghost use Rattle.iddqd_order.specs.Row.{line, rows, block_at, position, IsPlace};
+ghost use Rattle.iddqd_order.specs.Row.{line, entry_lists, block_at, position, IsPlace};
 
 use crate::block::Block;
 use crate::place::Place;
@@ -28,15 +28,15 @@ pub struct Iter<'a, E> {
 
 impl<'a, E> Model for Iter<'a, E> {
     ghost use Rattle.std.specs.Prelude.{List, ℕ, ◌≡◌, ◌+◌, ◌^◌, ◌<◌, ◌++◌, length, All, IfSome};
-    ghost use Rattle.iddqd_order.specs.Row.{line, rows, Run};
+    ghost use Rattle.iddqd_order.specs.Row.{line, entry_lists, BlockValue};
 
     ghost Value = { List E };
 
-    ghost view = { λ it. it.front.now ++ (line (rows it.blocks.now) ++ it.back.now) };
+    ghost view = { λ it. it.front.now ++ (line (entry_lists it.blocks.now) ++ it.back.now) };
 
     ghost invariant = { λ it. All (λ b. 0 < length b.entries) it.blocks.now
-        × (length (it.front.now ++ (line (rows it.blocks.now) ++ it.back.now)) < 2 ^ 64)
-        × IfSome it.middle (λ n. n ≡ length (line (rows it.blocks.now))) };
+        × (length (it.front.now ++ (line (entry_lists it.blocks.now) ++ it.back.now)) < 2 ^ 64)
+        × IfSome it.middle (λ n. n ≡ length (line (entry_lists it.blocks.now))) };
 }
 
 impl<'a, E> Iter<'a, E> {
@@ -190,8 +190,8 @@ impl<'a, E> FusedIterator for Iter<'a, E> {}
 
 /// Counts the entries of these blocks.
 fn count_in<E>(blocks: &[Block<E>]) -> usize
-    requires { length (line (rows blocks.now)) < 2 ^ 64 }
-    ensures { result ≡ length (line (rows blocks.now)) }
+    requires { length (line (entry_lists blocks.now)) < 2 ^ 64 }
+    ensures { result ≡ length (line (entry_lists blocks.now)) }
 {
     let mut count = 0;
     for block in blocks {
@@ -202,9 +202,9 @@ fn count_in<E>(blocks: &[Block<E>]) -> usize
 
 /// Returns the number of entries of these blocks, which is counted if it is not known.
 fn count_unless<E>(middle: Option<usize>, blocks: &[Block<E>]) -> usize
-    requires known { IfSome middle (λ n. n ≡ length (line (rows blocks.now))) }
-    requires fits { length (line (rows blocks.now)) < 2 ^ 64 }
-    ensures { result ≡ length (line (rows blocks.now)) }
+    requires known { IfSome middle (λ n. n ≡ length (line (entry_lists blocks.now))) }
+    requires fits { length (line (entry_lists blocks.now)) < 2 ^ 64 }
+    ensures { result ≡ length (line (entry_lists blocks.now)) }
 {
     match middle {
         Some(count) => count,

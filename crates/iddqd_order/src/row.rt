@@ -2,7 +2,7 @@
 ghost use Rattle.std.specs.Prelude.{◌≡◌, ℕ, ◌+◌, ◌-◌, ◌<◌, ◌≤◌, ◌++◌, [], ◌∷◌, All, length, take, drop, slice_range, slice_set, slice_index_or, OnOk, OnErr, IsTrue};
 ghost use Rattle.std.specs.Borrow.{sem};
 ghost use Rattle.std.specs.List.{insert, remove};
-ghost use Rattle.iddqd_order.specs.Row.{line, block_at, position, rows, put_in, IsRow, HasEntry, IsPlace, IsMoved};
+ghost use Rattle.iddqd_order.specs.Row.{line, block_at, position, entry_lists, put_in, IsRow, HasEntry, IsPlace, IsMoved};
 
 use crate::block::Block;
 use crate::place::Place;
@@ -26,13 +26,13 @@ pub(crate) struct BlockRow<E> {
 
 impl<E> Model for BlockRow<E> {
     ghost use Rattle.std.specs.Prelude.{length, vec_capacity};
-    ghost use Rattle.iddqd_order.specs.Row.{Row, row_code, rows, IsStocked};
+    ghost use Rattle.iddqd_order.specs.Row.{RowValue, row_code, entry_lists, IsStocked};
 
-    ghost Value = { Row E };
+    ghost Value = { RowValue E };
 
     ghost coded = { row_code E.code };
 
-    ghost view = { λ r. record { blocks = rows r.blocks.items; spare = length r.spare.items; memory = r.memory; most = r.most } };
+    ghost view = { λ r. record { blocks = entry_lists r.blocks.items; spare = length r.spare.items; memory = r.memory; most = r.most } };
 
     ghost invariant = { λ r. IsStocked r.blocks.items r.spare.items r.memory r.most (vec_capacity r.blocks) (vec_capacity r.spare) };
 }
@@ -68,7 +68,7 @@ impl<E> BlockRow<E> {
 
     /// Returns all blocks.
     pub(crate) fn blocks(&self) -> &[Block<E>]
-        ensures value { rows result.now ≡ self.now.blocks }
+        ensures value { entry_lists result.now ≡ self.now.blocks }
         ensures filled { All (λ b. 0 < length b.entries) result.now }
     {
         self.blocks.as_slice()
@@ -78,7 +78,7 @@ impl<E> BlockRow<E> {
     pub(crate) fn between(&self, from: usize, to: usize) -> &[Block<E>]
         requires from { from ≤ to }
         requires to { to ≤ length self.now.blocks }
-        ensures value { rows result.now ≡ slice_range self.now.blocks from to }
+        ensures value { entry_lists result.now ≡ slice_range self.now.blocks from to }
         ensures filled { All (λ b. 0 < length b.entries) result.now }
     {
         &self.blocks[from..to]
@@ -109,7 +109,7 @@ impl<E> BlockRow<E> {
     }
 
     /// Returns the entry at this place.
-    pub(crate) fn entry_at(&self, place: Place) -> &E
+    pub(crate) fn entry_in(&self, place: Place) -> &E
         requires { HasEntry self.now.blocks place }
         ensures { result.now ≡ slice_index_or (block_at self.now.blocks place.block) place.offset result.now }
     {
@@ -237,21 +237,21 @@ impl<E> BlockRow<E> {
     }
 
     /// Splits a block at this offset, with a spare block for its tail.
-    pub(crate) fn split(&mut self, at: usize, cut: usize)
+    pub(crate) fn split(&mut self, at: usize, offset: usize)
         requires within { at < length self.old.blocks }
-        requires some { 0 < cut }
-        requires cut { cut < length (block_at self.old.blocks at) }
+        requires some { 0 < offset }
+        requires offset { offset < length (block_at self.old.blocks at) }
         requires spare { 0 < self.old.spare }
         ensures blocks { self.new.blocks
-            ≡ insert (slice_set self.old.blocks at (take cut (block_at self.old.blocks at))) (at + 1)
-            (drop cut (block_at self.old.blocks at)) }
+            ≡ insert (slice_set self.old.blocks at (take offset (block_at self.old.blocks at))) (at + 1)
+            (drop offset (block_at self.old.blocks at)) }
         ensures spare { self.new.spare + 1 ≡ self.old.spare }
         ensures memory { self.new.memory ≡ self.old.memory }
         ensures most { self.new.most ≡ self.old.most }
     {
         let mut tail = self.spare.take_last();
         let head = &mut self.blocks[at];
-        head.split_into(cut, &mut tail);
+        head.split_into(offset, &mut tail);
         match self.blocks.insert(at + 1, tail) {
             Ok(()) => {}
             Err(_) => unreachable!(),

@@ -1,7 +1,7 @@
 //! Inserting an item through a vacant entry.
 ghost use Rattle.std.specs.Prelude.{◌≡◌, ◌<◌, true, length, IsOk, IfOk, IfErr, OnOk};
 ghost use Rattle.std.specs.Borrow.{sem};
-ghost use Rattle.iddqd_ord.specs.Entries.{GainsAndFinds, GainsAndLends, PutsIn, PutsInMade, wanted, rests_if_err};
+ghost use Rattle.iddqd_ord.specs.Entries.{GainsAndFinds, GainsAndLends, PutsIn, PutsInMade, vacant_test, rests_if_err};
 ghost use Rattle.iddqd_ord.specs.Items.{items};
 ghost use Rattle.iddqd_ord.specs.Mismatch.{HandsBack};
 
@@ -24,11 +24,11 @@ impl<'a, T: IdOrdItem, Q: OrdQuery<T::Key>> VacantEntry<'a, T, Q> {
         ensures gains_and_lends { IfOk result (GainsAndLends self.entry item) }
         // The result is `Ok` only for an item with the entry's key, and always for such an item if there is spare
         // capacity.
-        ensures same_key { OnOk result (wanted self.entry item ≡ true) }
-        ensures granted { wanted self.entry item ≡ true
+        ensures same_key { OnOk result (vacant_test self.entry item ≡ true) }
+        ensures granted { vacant_test self.entry item ≡ true
             → length (items self.entry.map.now) < self.entry.map.now.capacity → IsOk result }
         // After an error the item is returned, with the reason, and the map ends as it was.
-        ensures hands_back { IfErr result (HandsBack T.IdOrdItem T.Key.cmp (wanted self.entry) self.entry.map.now item) }
+        ensures hands_back { IfErr result (HandsBack T.IdOrdItem T.Key.cmp (vacant_test self.entry) self.entry.map.now item) }
         ensures* unchanged_at_err { sem 𝓛 (rests_if_err T.row T.Key.row self.entry.map result) }
     {
         let VacantEntry { map, query, place } = self;
@@ -43,14 +43,14 @@ impl<'a, T: IdOrdItem, Q: OrdQuery<T::Key>> VacantEntry<'a, T, Q> {
         ensures gains_and_finds { IfOk result (GainsAndFinds self.entry item) }
         // The result is `Ok` only for an item with the entry's key, and always for such an item if there is spare
         // capacity.
-        ensures same_key { OnOk result (wanted self.entry item ≡ true) }
-        ensures granted { wanted self.entry item ≡ true
+        ensures same_key { OnOk result (vacant_test self.entry item ≡ true) }
+        ensures granted { vacant_test self.entry item ≡ true
             → length (items self.entry.map.now) < self.entry.map.now.capacity → IsOk result }
         // The error borrows the map as it was, and has the item, with the reason.
         ensures same_map { IfErr result (λ e. e.map.ghost_name ≡ self.entry.map.ghost_name) }
         ensures unchanged { IfErr result (λ e. e.map.now ≡ self.entry.map.now) }
         ensures hands_back { IfErr result (λ e.
-            HandsBack T.IdOrdItem T.Key.cmp (wanted self.entry) self.entry.map.now item e.error) }
+            HandsBack T.IdOrdItem T.Key.cmp (vacant_test self.entry) self.entry.map.now item e.error) }
     {
         let VacantEntry { map, query, place } = self;
         match map.insert_free(item, query, place) {

@@ -13,7 +13,6 @@ impl<T: IdOrdItem> IdOrdMap<T> {
         ensures value { result ≡ length (items self.now) }
         ensures ascending { IsAscending T.Key.cmp T.key (items self.now) }
     {
-        self.note_order();
         self.items.len()
     }
 

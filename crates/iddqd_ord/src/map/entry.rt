@@ -39,10 +39,7 @@ impl<T: IdOrdItem> IdOrdMap<T> {
             ≡ in_place (has T.IdOrdItem Q.compare query) y (items self.old)) }
     {
         match self.place_of(query, &mut Meter::new()) {
-            Ok(place) => {
-                let _ = self.item_in(place);
-                Entry::Occupied(OccupiedEntry { map: self, place })
-            }
+            Ok(place) => Entry::Occupied(OccupiedEntry { map: self, place }),
             Err(place) => Entry::Vacant(VacantEntry {
                 map: self,
                 query,

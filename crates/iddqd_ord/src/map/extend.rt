@@ -3,8 +3,8 @@ ghost use Rattle.std.specs.Prelude.{◌≡◌, ◌≤◌, [], length, false, IfO
 ghost use Rattle.std.specs.Iterator.{IsFiniteIterable};
 ghost use Rattle.std.specs.List.{list_any};
 ghost use Rattle.iddqd_store.specs.Bag.Building.{GivesAll, GivesThen, FitsOn};
-ghost use Rattle.iddqd_ord.specs.Puts.{ExtendsTo, puts};
-ghost use Rattle.iddqd_ord.specs.Items.{items, like, IsFullFor};
+ghost use Rattle.iddqd_ord.specs.Extensions.{ExtendsTo, with_items};
+ghost use Rattle.iddqd_ord.specs.Items.{items, has_key_of, IsFullFor};
 
 use super::IdOrdMap;
 use crate::item::IdOrdItem;
@@ -50,10 +50,10 @@ impl<T: IdOrdItem + Drop> IdOrdMap<T> {
     ) -> Result<Self, MemoryRefused<T>>
         requires finite { IsFiniteIterable I.into_iter_gives I.IntoIter.can_next I.IntoIter.remaining iter }
         ensures all { IfOk result (λ map. GivesAll I.into_iter_gives I.IntoIter.next_gives iter (λ xs.
-            items map ≡ puts T.IdOrdItem T.Key.cmp [] xs)) }
+            items map ≡ with_items T.IdOrdItem T.Key.cmp [] xs)) }
         ensures fits { IfOk result (λ map. length (items map) ≤ map.capacity) }
         ensures refused { IfErr result (λ e. GivesThen I.into_iter_gives I.IntoIter.next_gives iter e.value (λ xs.
-            list_any (like T.IdOrdItem T.Key.cmp e.value) (puts T.IdOrdItem T.Key.cmp [] xs) ≡ false)) }
+            list_any (has_key_of T.IdOrdItem T.Key.cmp e.value) (with_items T.IdOrdItem T.Key.cmp [] xs) ≡ false)) }
     {
         let mut map = IdOrdMap::new(alloc);
         map.extend(iter)?;

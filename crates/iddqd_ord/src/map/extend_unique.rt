@@ -5,9 +5,9 @@ ghost use Rattle.std.specs.List.{list_any};
 ghost use Rattle.iddqd_store.specs.Bag.Building.{FitsOn, GivesAll, GivesThen, MatchFromIterError};
 ghost use Rattle.iddqd_ord.specs.Batches.{AreFree, IsOrderOf};
 ghost use Rattle.iddqd_ord.specs.Inserts.{TellsWhyBehind};
-ghost use Rattle.iddqd_ord.specs.Items.{items, like, GrowsUnless};
+ghost use Rattle.iddqd_ord.specs.Items.{items, has_key_of, GrowsUnless};
 ghost use Rattle.iddqd_ord.specs.Ordered.{IsAscending};
-ghost use Rattle.iddqd_ord.specs.Puts.{AddsTo, HasPlaceFor, RefusesFor, puts};
+ghost use Rattle.iddqd_ord.specs.Extensions.{AddsTo, HasPlaceFor, RefusesFor, with_items};
 ghost use Rattle.iddqd_order.specs.Row.{entries_in};
 
 use super::IdOrdMap;
@@ -52,13 +52,12 @@ impl<T: IdOrdItem + Drop> IdOrdMap<T> {
                     return Err(FromIterError::Duplicate(DuplicateItem::new(item, duplicate)));
                 }
                 Err(place) => {
-                    if let Err(item) = map.insert_at(item, place) {
+                    if let Err(item) = map.insert_or_refuse(item, place) {
                         return Err(FromIterError::Memory(item));
                     }
                 }
             }
         }
-        map.note_order();
         Ok(map)
     }
 
@@ -98,13 +97,12 @@ impl<T: IdOrdItem + Drop> IdOrdMap<T> {
             (FitsOn I.into_iter_gives I.IntoIter.remaining iter (length (items self.old)) self.old.capacity)
             self.old self.new }
     {
-        // The order of the items at the start is what they have after an error, too.
         self.note_order();
         let alloc = self.items.allocator();
         let mut before = Vec::new(alloc);
-        let mut order = Blocks::new(alloc, BLOCK);
+        let mut numbers = Blocks::new(alloc, BLOCK);
         for item in iter {
-            if let Err(rejected) = self.gather(item, &mut before, &mut order, &mut Meter::new()) {
+            if let Err(rejected) = self.gather(item, &mut before, &mut numbers, &mut Meter::new()) {
                 return Err(ExtendUniqueError {
                     before,
                     item: rejected.item,
@@ -117,25 +115,25 @@ impl<T: IdOrdItem + Drop> IdOrdMap<T> {
         Ok(())
     }
 
-    /// Appends an item to a list if neither the map nor the list has its key, enters its number into the order, and reserves room
+    /// Appends an item to a list if neither the map nor the list has its key, enters its number among theirs, and reserves room
     /// in the map for all items of the list.
     fn gather(
         &mut self,
         item: T,
         before: &mut Vec<T>,
-        order: &mut Blocks<usize>,
+        numbers: &mut Blocks<usize>,
         meter: &mut Meter,
     ) -> Result<(), Rejected<T>>
-        requires index { IsOrderOf T.IdOrdItem T.Key.cmp before.old.items (entries_in order.old) }
+        requires index { IsOrderOf T.IdOrdItem T.Key.cmp before.old.items (entries_in numbers.old) }
         requires free { AreFree T.IdOrdItem T.Key.cmp (items self.old) before.old.items }
         ensures keeps { (items self.new ≡ items self.old) × GrowsUnless
             (length (items self.old) + (length before.old.items + 1) ≤ self.old.capacity) self.old self.new }
         ensures gathered { OnOk result ((before.new.items ≡ before.old.items ++ item ∷ [])
-            × IsOrderOf T.IdOrdItem T.Key.cmp before.new.items (entries_in order.new)
+            × IsOrderOf T.IdOrdItem T.Key.cmp before.new.items (entries_in numbers.new)
             × AreFree T.IdOrdItem T.Key.cmp (items self.old) before.new.items
             × (length (items self.old) + length before.new.items ≤ self.new.capacity)) }
         ensures handed_back { IfErr result (λ e. (e.item ≡ item)
-            × (e.taken ≡ list_any (like T.IdOrdItem T.Key.cmp item) (items self.old ++ before.old.items))) }
+            × (e.taken ≡ list_any (has_key_of T.IdOrdItem T.Key.cmp item) (items self.old ++ before.old.items))) }
         ensures same_list { OnErr result (before.new.items ≡ before.old.items) }
         ensures asked { (r : ℕ) → length (items self.old) < 4 ^ r → length before.old.items < 4 ^ r
             → meter.new ≤ meter.old + 2 * (3 * r + 19) }
@@ -143,14 +141,14 @@ impl<T: IdOrdItem + Drop> IdOrdMap<T> {
         if let Ok(_) = self.place_of(item.key(), meter) {
             return Err(Rejected { item, taken: true });
         }
-        match place_in(order, before, &item, meter) {
+        match place_in(numbers, before, &item, meter) {
             Ok(_) => Err(Rejected { item, taken: true }),
             Err(place) => {
                 let count = before.len();
                 if !self.has_room_for(count) || before.reserve(1).is_err() {
                     return Err(Rejected { item, taken: false });
                 }
-                match insert_number(order, place, count) {
+                match insert_number(numbers, place, count) {
                     Ok(()) => {
                         before.push_reserved(item);
                         Ok(())
@@ -180,7 +178,7 @@ impl<T: IdOrdItem + Drop> IdOrdMap<T> {
     fn insert_all(&mut self, list: Vec<T>)
         requires free { AreFree T.IdOrdItem T.Key.cmp (items self.old) list.items }
         requires room { length (items self.old) + length list.items ≤ self.old.capacity }
-        ensures items { items self.new ≡ puts T.IdOrdItem T.Key.cmp (items self.old) list.items }
+        ensures items { items self.new ≡ with_items T.IdOrdItem T.Key.cmp (items self.old) list.items }
         ensures capacity { self.new.capacity ≡ self.old.capacity }
     {
         for item in list {

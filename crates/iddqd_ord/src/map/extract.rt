@@ -90,7 +90,7 @@ impl<T: IdOrdItem> IdOrdMap<T> {
     {
         let mut next = from;
         while let Some(place) = next {
-            if f(self.item_from(place)) {
+            if f(self.item_in(place)) {
                 return Some(place);
             }
             next = self.next_place(place);

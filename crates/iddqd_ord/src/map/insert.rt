@@ -1,10 +1,11 @@
 //! Inserting an item whose key no other has.
-ghost use Rattle.std.specs.Prelude.{◌≡◌, ◌^◌, ◌+◌, ◌*◌, ◌<◌, ◌≤◌, ℕ, false, length, IsOk, OnOk, OnErr, IfErr};
+ghost use Rattle.std.specs.Prelude.{◌≡◌, ◌^◌, ◌+◌, ◌*◌, ◌<◌, ◌≤◌, ℕ, false, length, Some, slice_get, IsOk, IfOk, OnOk, OnErr, IfErr};
 ghost use Rattle.std.specs.List.{list_any};
-ghost use Rattle.iddqd_order.specs.Row.{position, IsPlace};
-ghost use Rattle.iddqd_ord.specs.Items.{items, against, like, Gains};
+ghost use Rattle.iddqd_order.specs.Row.{position, HasEntry, IsPlace};
+ghost use Rattle.iddqd_order.specs.Search.{IsSplit};
+ghost use Rattle.iddqd_ord.specs.Items.{items, key_comparison, has_key_of, Gains};
 ghost use Rattle.iddqd_ord.specs.Inserts.{TellsWhy};
-ghost use Rattle.iddqd_ord.specs.Ordered.{IsSplit};
+ghost use Rattle.iddqd_ord.specs.Ordered.{IsAscending};
 
 use super::IdOrdMap;
 use crate::error::Rejected;
@@ -27,8 +28,8 @@ impl<T: IdOrdItem> IdOrdMap<T> {
     pub fn try_insert(&mut self, item: T) -> Result<(), Rejected<T>>
         // The result is `Ok` only if no item has the key, and then always if there is spare capacity.
         ensures gains { OnOk result (Gains T.IdOrdItem T.Key.cmp self.old item self.new) }
-        ensures free { OnOk result (list_any (like T.IdOrdItem T.Key.cmp item) (items self.old) ≡ false) }
-        ensures granted { list_any (like T.IdOrdItem T.Key.cmp item) (items self.old) ≡ false
+        ensures free { OnOk result (list_any (has_key_of T.IdOrdItem T.Key.cmp item) (items self.old) ≡ false) }
+        ensures granted { list_any (has_key_of T.IdOrdItem T.Key.cmp item) (items self.old) ≡ false
             → length (items self.old) < self.old.capacity → IsOk result }
         // The error has the item and says whether the key is taken. If it is not, the map is full. The map is as it was.
         ensures handed_back { IfErr result (λ e. e.item ≡ item) }
@@ -42,8 +43,8 @@ impl<T: IdOrdItem> IdOrdMap<T> {
     #[inline(always)]
     fn try_insert_counted(&mut self, item: T, meter: &mut Meter) -> Result<(), Rejected<T>>
         ensures gains { OnOk result (Gains T.IdOrdItem T.Key.cmp self.old item self.new) }
-        ensures free { OnOk result (list_any (like T.IdOrdItem T.Key.cmp item) (items self.old) ≡ false) }
-        ensures granted { list_any (like T.IdOrdItem T.Key.cmp item) (items self.old) ≡ false
+        ensures free { OnOk result (list_any (has_key_of T.IdOrdItem T.Key.cmp item) (items self.old) ≡ false) }
+        ensures granted { list_any (has_key_of T.IdOrdItem T.Key.cmp item) (items self.old) ≡ false
             → length (items self.old) < self.old.capacity → IsOk result }
         ensures handed_back { IfErr result (λ e. e.item ≡ item) }
         ensures unchanged { OnErr result (self.new ≡ self.old) }
@@ -52,7 +53,7 @@ impl<T: IdOrdItem> IdOrdMap<T> {
     {
         match self.place_of(item.key(), meter) {
             Ok(_) => Err(Rejected { item, taken: true }),
-            Err(place) => match self.insert_at(item, place) {
+            Err(place) => match self.insert_or_refuse(item, place) {
                 Ok(_) => Ok(()),
                 Err(item) => Err(Rejected { item, taken: false }),
             },
@@ -62,11 +63,14 @@ impl<T: IdOrdItem> IdOrdMap<T> {
     /// Inserts an item at the place at which a search for its key ended, and returns where it is. If the map is full and there is
     /// no memory to grow, it returns the item. Each insert of an item whose key is free ends here.
     #[inline(always)]
-    pub(super) fn insert_at(&mut self, item: T, place: Place) -> Result<Place, T>
+    pub(super) fn insert_or_refuse(&mut self, item: T, place: Place) -> Result<Place, T>
         requires place { IsPlace self.old.blocks place }
-        requires gap { IsSplit (against T.IdOrdItem T.Key.cmp item) (items self.old) (position self.old.blocks place) 0 }
+        requires gap { IsSplit (key_comparison T.IdOrdItem T.Key.cmp item) (items self.old) (position self.old.blocks place) 0 }
         ensures gains { OnOk result (Gains T.IdOrdItem T.Key.cmp self.old item self.new) }
-        ensures free { list_any (like T.IdOrdItem T.Key.cmp item) (items self.old) ≡ false }
+        ensures entry { IfOk result (HasEntry self.new.blocks) }
+        ensures item { IfOk result (λ p. slice_get (items self.new) (position self.new.blocks p) ≡ Some item) }
+        ensures ascending { OnOk result (IsAscending T.Key.cmp T.key (items self.new)) }
+        ensures free { list_any (has_key_of T.IdOrdItem T.Key.cmp item) (items self.old) ≡ false }
         ensures granted { length (items self.old) < self.old.capacity → IsOk result }
         ensures handed_back { IfErr result (λ x. x ≡ item) }
         ensures full { OnErr result (length (items self.old) ≡ self.old.capacity) }

@@ -2,7 +2,7 @@
 ghost use Rattle.std.specs.Prelude.{◌≡◌, ◌<◌, ◌⊎◌, true, false, length, IsOk, OnOk, OnErr, IfErr};
 ghost use Rattle.std.specs.Borrow.{sem};
 ghost use Rattle.std.specs.List.{list_any};
-ghost use Rattle.iddqd_ord.specs.Items.{items, like, Gains, IsFullFor};
+ghost use Rattle.iddqd_ord.specs.Items.{items, has_key_of, Gains, IsFullFor};
 
 use super::IdOrdMap;
 use crate::error::InsertError;
@@ -29,12 +29,12 @@ impl<T: IdOrdItem> IdOrdMap<T> {
     /// ```
     pub fn insert_unique(&mut self, item: T) -> Result<(), InsertError<'_, T>>
         // The result is `Ok` only if no item has the key, and then always if there is spare capacity.
-        ensures free { OnOk result (list_any (like T.IdOrdItem T.Key.cmp item) (items self.old) ≡ false) }
-        ensures granted { list_any (like T.IdOrdItem T.Key.cmp item) (items self.old) ≡ false
+        ensures free { OnOk result (list_any (has_key_of T.IdOrdItem T.Key.cmp item) (items self.old) ≡ false) }
+        ensures granted { list_any (has_key_of T.IdOrdItem T.Key.cmp item) (items self.old) ≡ false
             → length (items self.old) < self.old.capacity → IsOk result }
         // The error has the item and borrows the map as it was. It occurs only if the key is taken or the map is full.
         ensures handed_back { IfErr result (λ e. HandsBackAndHolds self.entry item e) }
-        ensures reason { OnErr result ((list_any (like T.IdOrdItem T.Key.cmp item) (items self.old) ≡ true)
+        ensures reason { OnErr result ((list_any (has_key_of T.IdOrdItem T.Key.cmp item) (items self.old) ≡ true)
             ⊎ IsFullFor T.IdOrdItem T.Key.cmp self.old item) }
         // Once the error is gone, the map has the item after `Ok`, and otherwise it is as it was.
         ensures* ends { sem 𝓛 (ends_as T.row T.Key.row self.entry result
@@ -46,7 +46,7 @@ impl<T: IdOrdItem> IdOrdMap<T> {
                 item,
                 found: Some(place),
             }),
-            Err(place) => match self.insert_at(item, place) {
+            Err(place) => match self.insert_or_refuse(item, place) {
                 Ok(_) => Ok(()),
                 Err(item) => Err(InsertError {
                     map: self,

@@ -1,7 +1,7 @@
 //! Iterating over the items in the order of their keys.
 ghost use Rattle.std.specs.Prelude.{◌≡◌, ◌<◌, ◌^◌, filter, length};
 ghost use Rattle.std.specs.Map.Iter.{ShowsInOrder, ShowsInReverse, deref};
-ghost use Rattle.iddqd_ord.specs.Items.{items, within};
+ghost use Rattle.iddqd_ord.specs.Items.{items, is_within};
 ghost use Rattle.iddqd_ord.specs.Ordered.{IsAscending};
 ghost use Rattle.iddqd_ord.specs.Walks.{MeetsFirst, MeetsLast};
 
@@ -26,7 +26,6 @@ impl<T: IdOrdItem> IdOrdMap<T> {
         ensures meets_last { MeetsLast T }
         ensures countable { length (items self.now) < 2 ^ 64 }
     {
-        self.note_order();
         self.items.iter()
     }
 
@@ -41,15 +40,15 @@ impl<T: IdOrdItem> IdOrdMap<T> {
     /// `map.range((Bound::Excluded(&key), Bound::Unbounded)).next()`
     pub fn range<Q: OrdSeek<T::Key>, R: OrdRange<Q>>(&self, range: R) -> Iter<'_, T>
         ensures gives { R.has_bounds range → result
-            ≡ filter (within T.IdOrdItem Q.side (R.start_bound range) (R.end_bound range)) (items self.now) }
+            ≡ filter (is_within T.IdOrdItem Q.side (R.start_bound range) (R.end_bound range)) (items self.now) }
         ensures runs { ShowsInOrder (deref {X = T}) }
         ensures runs_back { ShowsInReverse (deref {X = T}) }
         ensures meets_first { MeetsFirst T }
         ensures meets_last { MeetsLast T }
         ensures countable { length result < 2 ^ 64 }
     {
-        let next = self.first_from(range.start_bound(), &mut Meter::new());
-        let end = self.first_past(range.end_bound(), &mut Meter::new());
+        let next = self.range_start(range.start_bound(), &mut Meter::new());
+        let end = self.range_end(range.end_bound(), &mut Meter::new());
         self.items.range(next, end)
     }
 }
@@ -57,7 +56,8 @@ impl<T: IdOrdItem> IdOrdMap<T> {
 impl<T: IdOrdItem> IdOrdMap<T> {
     /// Returns an iterator over the items by value.
     pub(crate) fn into_items(self) -> IntoIter<T>
-        ensures { result ≡ items self }
+        ensures gives { result ≡ items self }
+        ensures countable { length (items self) < 2 ^ 64 }
     {
         let IdOrdMap { items, keys: _ } = self;
         items.into_iter()

@@ -27,8 +27,8 @@ impl<T: IdOrdItem> IdOrdMap<T> {
         ensures runs_back { ShowsInReverse (deref {X = T}) }
         ensures countable { length result < 2 ^ 64 }
     {
-        let next = self.first_from(Bound::Included(&query), &mut Meter::new());
-        let end = self.first_past(Bound::Included(&query), &mut Meter::new());
+        let next = self.range_start(Bound::Included(&query), &mut Meter::new());
+        let end = self.range_end(Bound::Included(&query), &mut Meter::new());
         self.items.range(next, end)
     }
 }

@@ -1,7 +1,7 @@
 //! Inserting an item in place of the one that has its key.
 ghost use Rattle.std.specs.Prelude.{◌≡◌, ◌≢◌, ◌+◌, ◌*◌, ◌^◌, ◌<◌, ◌≤◌, ℕ, [], length, IsOk, IfOk, IfErr, OnOk, OnErr};
 ghost use Rattle.iddqd_store.specs.Bag.{IsOnly};
-ghost use Rattle.iddqd_ord.specs.Items.{items, like, IsFullFor};
+ghost use Rattle.iddqd_ord.specs.Items.{items, has_key_of, IsFullFor};
 ghost use Rattle.iddqd_ord.specs.Inserts.{Overwrites};
 
 use super::IdOrdMap;
@@ -17,7 +17,7 @@ impl<T: IdOrdItem> IdOrdMap<T> {
     /// Among fewer than `4 ^ r` items the call compares at most `3 * r + 19` keys.
     pub fn insert_overwrite(&mut self, item: T) -> Result<Option<T>, MemoryRefused<T>>
         // The item that had the key is returned, and the new one is in its place.
-        ensures displaced { IfOk result (IsOnly (like T.IdOrdItem T.Key.cmp item) (items self.old)) }
+        ensures displaced { IfOk result (IsOnly (has_key_of T.IdOrdItem T.Key.cmp item) (items self.old)) }
         ensures overwrites { OnOk result (Overwrites T.IdOrdItem T.Key.cmp self.old item self.new) }
         // With spare capacity the call never fails.
         ensures granted { length (items self.old) < self.old.capacity → IsOk result }
@@ -36,7 +36,7 @@ impl<T: IdOrdItem> IdOrdMap<T> {
         item: T,
         meter: &mut Meter,
     ) -> Result<Option<T>, MemoryRefused<T>>
-        ensures displaced { IfOk result (IsOnly (like T.IdOrdItem T.Key.cmp item) (items self.old)) }
+        ensures displaced { IfOk result (IsOnly (has_key_of T.IdOrdItem T.Key.cmp item) (items self.old)) }
         ensures overwrites { OnOk result (Overwrites T.IdOrdItem T.Key.cmp self.old item self.new) }
         ensures granted { length (items self.old) < self.old.capacity → IsOk result }
         ensures handed_back { IfErr result (λ e. e.value ≡ item) }
@@ -45,12 +45,8 @@ impl<T: IdOrdItem> IdOrdMap<T> {
         ensures asked { (r : ℕ) → length (items self.old) < 4 ^ r → meter.new ≤ meter.old + (3 * r + 19) }
     {
         match self.place_of(item.key(), meter) {
-            Ok(place) => {
-                let displaced = self.replace_in(place, item);
-                self.note_order();
-                Ok(Some(displaced))
-            }
-            Err(place) => match self.insert_at(item, place) {
+            Ok(place) => Ok(Some(self.replace_in(place, item))),
+            Err(place) => match self.insert_or_refuse(item, place) {
                 Ok(_) => Ok(None),
                 Err(value) => Err(MemoryRefused { value }),
             },

@@ -6,13 +6,14 @@ ghost use Rattle.iddqd_store.specs.Bag.{IsOnly};
 ghost use Rattle.std.specs.Range.Bound.{bound_map};
 ghost use Rattle.std.specs.declared.cmp.Ordering.TheVariants.{Equal};
 ghost use Rattle.iddqd_order.specs.Row.{position, index_of, HasEntry, IsPlace};
-ghost use Rattle.iddqd_ord.specs.Items.{items, has, sought, against, is_from, is_to};
-ghost use Rattle.iddqd_ord.specs.Ordered.{IsAscending, IsSplit, IsCut, is_past, side_of};
+ghost use Rattle.iddqd_order.specs.Search.{IsSplit};
+ghost use Rattle.iddqd_ord.specs.Items.{items, has, query_comparison, key_comparison, is_from, is_to};
+ghost use Rattle.iddqd_ord.specs.Ordered.{IsAscending, IsStartOf, is_past, side_of};
 
 use super::IdOrdMap;
 use crate::item::IdOrdItem;
 use crate::query::{OrdQuery, OrdSeek};
-use iddqd_order::{Place, Probe};
+use iddqd_order::{Compare, Place};
 use iddqd_store::{Meter, TryReserveError};
 use std::cmp::Ordering;
 use std::ops::Bound;
@@ -23,7 +24,7 @@ struct ByQuery<'a, Q> {
     query: &'a Q,
 }
 
-impl<'a, T: IdOrdItem, Q: OrdQuery<T::Key>> Probe<T> for ByQuery<'a, Q> {
+impl<'a, T: IdOrdItem, Q: OrdQuery<T::Key>> Compare<T> for ByQuery<'a, Q> {
     ghost order = { λ p x. Q.compare p.query.now (T.key x) };
 
     ghost MayAsk = { λ _ _. Unit {0} };
@@ -40,7 +41,7 @@ struct Before<'a, Q> {
     query: &'a Q,
 }
 
-impl<'a, T: IdOrdItem, Q: OrdSeek<T::Key>> Probe<T> for Before<'a, Q> {
+impl<'a, T: IdOrdItem, Q: OrdSeek<T::Key>> Compare<T> for Before<'a, Q> {
     ghost order = { λ p x. side_of false (Q.side p.query.now (T.key x)) };
 
     ghost MayAsk = { λ _ _. Unit {0} };
@@ -61,7 +62,7 @@ struct Behind<'a, Q> {
     query: &'a Q,
 }
 
-impl<'a, T: IdOrdItem, Q: OrdSeek<T::Key>> Probe<T> for Behind<'a, Q> {
+impl<'a, T: IdOrdItem, Q: OrdSeek<T::Key>> Compare<T> for Behind<'a, Q> {
     ghost order = { λ p x. side_of true (Q.side p.query.now (T.key x)) };
 
     ghost MayAsk = { λ _ _. Unit {0} };
@@ -86,24 +87,27 @@ impl<T: IdOrdItem> IdOrdMap<T> {
         meter: &mut Meter,
     ) -> Result<Place, Place>
         ensures entry { IfOk result (HasEntry self.now.blocks) }
-        ensures found { IfOk result (λ p. IsSplit (sought T.IdOrdItem Q.compare query) (items self.now)
+        ensures found { IfOk result (λ p. IsSplit (query_comparison T.IdOrdItem Q.compare query) (items self.now)
             (position self.now.blocks p) 1) }
         ensures place { IfErr result (IsPlace self.now.blocks) }
-        ensures gap { IfErr result (λ p. IsSplit (sought T.IdOrdItem Q.compare query) (items self.now)
+        ensures gap { IfErr result (λ p. IsSplit (query_comparison T.IdOrdItem Q.compare query) (items self.now)
             (position self.now.blocks p) 0) }
         ensures ascending { IsAscending T.Key.cmp T.key (items self.now) }
+        ensures fits { length (items self.now) ≤ self.now.capacity }
         ensures asked { (r : ℕ) → length (items self.now) < 4 ^ r → meter.new ≤ meter.old + (3 * r + 19) }
     {
         self.items.search(&ByQuery { query: &query }, meter)
     }
 
-    /// Returns the item at this place.
+    /// Returns the item at this place, which is the first of the items from this place on.
     pub(crate) fn item_in(&self, place: Place) -> &T
         requires { HasEntry self.now.blocks place }
         ensures item { (d : T) → result.now ≡ slice_index_or (items self.now) (position self.now.blocks place) d }
         ensures within { position self.now.blocks place < length (items self.now) }
+        ensures first { drop (position self.now.blocks place) (items self.now)
+            ≡ result.now ∷ drop (position self.now.blocks place + 1) (items self.now) }
     {
-        self.items.entry_at(place)
+        self.items.entry_in(place)
     }
 
     /// Returns the place of the first item, or `None` if there is none.
@@ -175,17 +179,6 @@ impl<T: IdOrdItem> IdOrdMap<T> {
         self.items.end()
     }
 
-    /// Returns the item at this place. It is the first of the items from this place on.
-    pub(crate) fn item_from(&self, place: Place) -> &T
-        requires { HasEntry self.now.blocks place }
-        ensures within { position self.now.blocks place < length (items self.now) }
-        ensures first { drop (position self.now.blocks place) (items self.now)
-            ≡ result.now ∷ drop (position self.now.blocks place + 1) (items self.now) }
-        ensures item { result.now ≡ slice_index_or (items self.now) (position self.now.blocks place) result.now }
-    {
-        self.item_in(place)
-    }
-
     /// Reserves capacity for one more item if the map is full. If that fails, the map is as before.
     #[inline(always)]
     pub(crate) fn make_room(&mut self) -> Result<(), TryReserveError>
@@ -208,8 +201,9 @@ impl<T: IdOrdItem> IdOrdMap<T> {
     pub(crate) fn insert_into(&mut self, item: T, place: Place) -> Place
         requires room { length (items self.old) < self.old.capacity }
         requires place { IsPlace self.old.blocks place }
-        requires gap { IsSplit (against T.IdOrdItem T.Key.cmp item) (items self.old) (position self.old.blocks place) 0 }
+        requires gap { IsSplit (key_comparison T.IdOrdItem T.Key.cmp item) (items self.old) (position self.old.blocks place) 0 }
         ensures inserted { items self.new ≡ insert (items self.old) (position self.old.blocks place) item }
+        ensures ascending { IsAscending T.Key.cmp T.key (items self.new) }
         ensures capacity { self.new.capacity ≡ self.old.capacity }
         ensures entry { HasEntry self.new.blocks result }
         ensures at { position self.new.blocks result ≡ position self.old.blocks place }
@@ -221,7 +215,7 @@ impl<T: IdOrdItem> IdOrdMap<T> {
     pub(super) fn insert_within(&mut self, item: T, place: Place)
         requires room { length (items self.old) < self.old.capacity }
         requires place { IsPlace self.old.blocks place }
-        requires gap { IsSplit (against T.IdOrdItem T.Key.cmp item) (items self.old) (position self.old.blocks place) 0 }
+        requires gap { IsSplit (key_comparison T.IdOrdItem T.Key.cmp item) (items self.old) (position self.old.blocks place) 0 }
         ensures inserted { items self.new ≡ insert (items self.old) (position self.old.blocks place) item }
         ensures capacity { self.new.capacity ≡ self.old.capacity }
     {
@@ -244,7 +238,7 @@ impl<T: IdOrdItem> IdOrdMap<T> {
     /// Puts an item with an equal key in the place of the one at this place, and returns the latter.
     pub(crate) fn replace_in(&mut self, place: Place, item: T) -> T
         requires entry { HasEntry self.old.blocks place }
-        requires same_key { (d : T) → against T.IdOrdItem T.Key.cmp item
+        requires same_key { (d : T) → key_comparison T.IdOrdItem T.Key.cmp item
             (slice_index_or (items self.old) (position self.old.blocks place) d) ≡ Equal }
         ensures item { (d : T) → result ≡ slice_index_or (items self.old) (position self.old.blocks place) d }
         ensures replaced { items self.new ≡ slice_set (items self.old) (position self.old.blocks place) item }
@@ -255,21 +249,20 @@ impl<T: IdOrdItem> IdOrdMap<T> {
         self.items.replace(place, item)
     }
 
-    /// Does nothing. A call of it gives the prover the facts that the keys ascend and that the items fit.
+    /// Does nothing. A call of it gives the prover the facts that the keys ascend and that the items fit. It is for functions with a
+    /// loop that may take no step, and so may call nothing that has these facts among its clauses.
     #[inline(always)]
     pub(crate) fn note_order(&self)
         ensures ascending { IsAscending T.Key.cmp T.key (items self.now) }
         ensures fits { length (items self.now) ≤ self.now.capacity }
-        ensures countable { length (items self.now) < 2 ^ 64 }
     {
         let _ = self.items.capacity();
-        let _ = self.items.len();
     }
 
     /// Returns the place of the first item that is not lower than what is sought. It is the end if there is none.
-    fn cut_before<Q: OrdSeek<T::Key>>(&self, query: Q, meter: &mut Meter) -> Place
+    fn lower_bound<Q: OrdSeek<T::Key>>(&self, query: Q, meter: &mut Meter) -> Place
         ensures place { IsPlace self.now.blocks result }
-        ensures cut { IsCut (λ x. is_past false (sought T.IdOrdItem Q.side query x)) (items self.now)
+        ensures starts { IsStartOf (λ x. is_past false (query_comparison T.IdOrdItem Q.side query x)) (items self.now)
             (position self.now.blocks result) }
         ensures asked { (r : ℕ) → length (items self.now) < 4 ^ r → meter.new ≤ meter.old + (3 * r + 19) }
     {
@@ -280,9 +273,9 @@ impl<T: IdOrdItem> IdOrdMap<T> {
     }
 
     /// Returns the place of the first item that is higher than what is sought. It is the end if there is none.
-    fn cut_behind<Q: OrdSeek<T::Key>>(&self, query: Q, meter: &mut Meter) -> Place
+    fn upper_bound<Q: OrdSeek<T::Key>>(&self, query: Q, meter: &mut Meter) -> Place
         ensures place { IsPlace self.now.blocks result }
-        ensures cut { IsCut (λ x. is_past true (sought T.IdOrdItem Q.side query x)) (items self.now)
+        ensures starts { IsStartOf (λ x. is_past true (query_comparison T.IdOrdItem Q.side query x)) (items self.now)
             (position self.now.blocks result) }
         ensures asked { (r : ℕ) → length (items self.now) < 4 ^ r → meter.new ≤ meter.old + (3 * r + 19) }
     {
@@ -293,29 +286,29 @@ impl<T: IdOrdItem> IdOrdMap<T> {
     }
 
     /// Returns the place of the first item that is not before a lower bound, or the end if there is none.
-    pub(crate) fn first_from<Q: OrdSeek<T::Key>>(&self, low: Bound<&Q>, meter: &mut Meter) -> Place
+    pub(crate) fn range_start<Q: OrdSeek<T::Key>>(&self, low: Bound<&Q>, meter: &mut Meter) -> Place
         ensures place { IsPlace self.now.blocks result }
-        ensures cut { IsCut (is_from T.IdOrdItem Q.side (bound_map (λ q. q.now) low.entry)) (items self.now)
+        ensures starts { IsStartOf (is_from T.IdOrdItem Q.side (bound_map (λ q. q.now) low.entry)) (items self.now)
             (position self.now.blocks result) }
         ensures asked { (r : ℕ) → length (items self.now) < 4 ^ r → meter.new ≤ meter.old + (3 * r + 19) }
     {
         match low {
-            Bound::Included(query) => self.cut_before(*query, meter),
-            Bound::Excluded(query) => self.cut_behind(*query, meter),
+            Bound::Included(query) => self.lower_bound(*query, meter),
+            Bound::Excluded(query) => self.upper_bound(*query, meter),
             Bound::Unbounded => self.items.start(),
         }
     }
 
     /// Returns the place of the first item that is behind an upper bound, or the end if there is none.
-    pub(crate) fn first_past<Q: OrdSeek<T::Key>>(&self, high: Bound<&Q>, meter: &mut Meter) -> Place
+    pub(crate) fn range_end<Q: OrdSeek<T::Key>>(&self, high: Bound<&Q>, meter: &mut Meter) -> Place
         ensures place { IsPlace self.now.blocks result }
-        ensures cut { IsCut (λ x. not (is_to T.IdOrdItem Q.side (bound_map (λ q. q.now) high.entry) x)) (items self.now)
+        ensures starts { IsStartOf (λ x. not (is_to T.IdOrdItem Q.side (bound_map (λ q. q.now) high.entry) x)) (items self.now)
             (position self.now.blocks result) }
         ensures asked { (r : ℕ) → length (items self.now) < 4 ^ r → meter.new ≤ meter.old + (3 * r + 19) }
     {
         match high {
-            Bound::Included(query) => self.cut_behind(*query, meter),
-            Bound::Excluded(query) => self.cut_before(*query, meter),
+            Bound::Included(query) => self.upper_bound(*query, meter),
+            Bound::Excluded(query) => self.lower_bound(*query, meter),
             Bound::Unbounded => self.items.end(),
         }
     }

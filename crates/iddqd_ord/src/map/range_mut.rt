@@ -1,6 +1,6 @@
 //! Iterating over items for writing.
 ghost use Rattle.std.specs.Prelude.{◌≡◌, ◌++◌, [], filter};
-ghost use Rattle.iddqd_ord.specs.Items.{items, within};
+ghost use Rattle.iddqd_ord.specs.Items.{items, is_within};
 ghost use Rattle.iddqd_ord.specs.IterMuts.{behind_of, done_of, rest_of};
 
 use super::IdOrdMap;
@@ -50,11 +50,11 @@ impl<T: IdOrdItem> IdOrdMap<T> {
         ensures unchanged { result.map.now ≡ self.old }
         // The items within the bounds are left, between those before them and those behind them.
         ensures gives { R.has_bounds range → rest_of result
-            ≡ filter (within T.IdOrdItem Q.side (R.start_bound range) (R.end_bound range)) (items self.old) }
+            ≡ filter (is_within T.IdOrdItem Q.side (R.start_bound range) (R.end_bound range)) (items self.old) }
         ensures parts { done_of result ++ (rest_of result ++ behind_of result) ≡ items self.old }
     {
-        let front = self.first_from(range.start_bound(), &mut Meter::new());
-        let end = self.first_past(range.end_bound(), &mut Meter::new());
+        let front = self.range_start(range.start_bound(), &mut Meter::new());
+        let end = self.range_end(range.end_bound(), &mut Meter::new());
         let left = self.count_between(front, end);
         if left == 0 {
             return IterMut {

@@ -1,8 +1,8 @@
 //! Replacing an item by another, whatever their keys are.
 ghost use Rattle.std.specs.Prelude.{◌≡◌, ◌+◌, ◌*◌, ◌^◌, ◌<◌, ◌≤◌, ℕ, Some, length, IfOk, IfErr, OnOk, OnErr};
 ghost use Rattle.iddqd_store.specs.Bag.{IsOnly};
-ghost use Rattle.iddqd_ord.specs.Items.{items, has, like};
-ghost use Rattle.iddqd_ord.specs.Rekeyed.{PutsAmong, TellsWhyNot, left_out, others};
+ghost use Rattle.iddqd_ord.specs.Items.{items, has, has_key_of};
+ghost use Rattle.iddqd_ord.specs.Rekeyed.{PutsAmong, TellsWhyNot, refused_item, others};
 
 use super::IdOrdMap;
 use crate::error::NotReplaced;
@@ -31,10 +31,10 @@ impl<T: IdOrdItem> IdOrdMap<T> {
             (others (has T.IdOrdItem Q.compare query) (items self.old)) item (items self.new)) }
         ensures capacity { self.new.capacity ≡ self.old.capacity }
         // The error has the new item, and says which of the two cases it is. The map is as it was.
-        ensures handed_back { IfErr result (λ e. left_out e ≡ item) }
+        ensures handed_back { IfErr result (λ e. refused_item e ≡ item) }
         ensures unchanged { OnErr result (self.new ≡ self.old) }
         ensures reason { IfErr result (TellsWhyNot (has T.IdOrdItem Q.compare query)
-            (like T.IdOrdItem T.Key.cmp item) (items self.old)) }
+            (has_key_of T.IdOrdItem T.Key.cmp item) (items self.old)) }
     {
         self.rekey_counted(query, item, &mut Meter::new())
     }
@@ -53,10 +53,10 @@ impl<T: IdOrdItem> IdOrdMap<T> {
         ensures puts { OnOk result (PutsAmong T.IdOrdItem T.Key.cmp
             (others (has T.IdOrdItem Q.compare query) (items self.old)) item (items self.new)) }
         ensures capacity { self.new.capacity ≡ self.old.capacity }
-        ensures handed_back { IfErr result (λ e. left_out e ≡ item) }
+        ensures handed_back { IfErr result (λ e. refused_item e ≡ item) }
         ensures unchanged { OnErr result (self.new ≡ self.old) }
         ensures reason { IfErr result (TellsWhyNot (has T.IdOrdItem Q.compare query)
-            (like T.IdOrdItem T.Key.cmp item) (items self.old)) }
+            (has_key_of T.IdOrdItem T.Key.cmp item) (items self.old)) }
         ensures asked { (r : ℕ) → length (items self.old) < 4 ^ r → meter.new ≤ meter.old + (3 * (3 * r + 19) + 1) }
     {
         let Ok(place) = self.place_of(query, meter) else {
@@ -69,7 +69,6 @@ impl<T: IdOrdItem> IdOrdMap<T> {
                 Ok(_) => Err(NotReplaced::Duplicate(item)),
                 Err(_) => {
                     // The map has room for the new item once the old one is gone.
-                    self.note_order();
                     let (old, _) = self.remove_in(place);
                     let Err(place) = self.place_of(item.key(), meter) else {
                         unreachable!()

@@ -1,4 +1,4 @@
-//! Clones of entries in an order.
+//! Clones of entries in order.
 ghost use Rattle.std.specs.Prelude.{◌≡◌, ◌<◌, ◌≤◌, length, IfOk};
 ghost use Rattle.std.specs.List.{AllZip};
 ghost use Rattle.iddqd_order.specs.Row.{line, entries_in, IsRow};
@@ -25,7 +25,7 @@ fn memory_for<E>(row: &BlockRow<E>, count: usize) -> usize
 }
 
 impl<E: Clone> Blocks<E> {
-    /// Returns an order with a clone of each entry, made block by block. Its capacity is its number of entries. The call
+    /// Returns `Blocks` with a clone of each entry, made block by block. Its capacity is its number of entries. The call
     /// fails if an allocation or a clone fails, and what was cloned is dropped then.
     pub fn clone(&self) -> Result<Blocks<E>, AllocError>
         ensures entries { IfOk result (λ copy. AllZip E.is_clone (entries_in self.now) (entries_in copy)) }

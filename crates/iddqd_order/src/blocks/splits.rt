@@ -13,7 +13,7 @@ use std::mem::replace;
 /// Returns where a full block is split for an entry at this place: in halves. But entries that come in ascending or descending
 /// order are to leave full blocks behind, so the last block is split before its last entry if the new one goes after it, and
 /// the first block behind its first entry if the new one goes before it.
-fn cut_for(place: Place, count: usize, len: usize) -> usize
+fn split_offset(place: Place, count: usize, len: usize) -> usize
     requires within { place.block < count }
     requires many { 2 ≤ len }
     ensures some { 0 < result }
@@ -38,14 +38,14 @@ fn split<E>(row: &mut BlockRow<E>, place: Place) -> Place
     ensures room { HasRoom row.new.blocks row.new.memory result }
     ensures same { position row.new.blocks result ≡ position row.old.blocks place }
 {
-    let cut = cut_for(place, row.len(), row.memory());
-    row.split(place.block, cut);
-    if place.offset <= cut {
+    let offset = split_offset(place, row.len(), row.memory());
+    row.split(place.block, offset);
+    if place.offset <= offset {
         return place;
     }
     Place {
         block: place.block + 1,
-        offset: place.offset - cut,
+        offset: place.offset - offset,
     }
 }
 

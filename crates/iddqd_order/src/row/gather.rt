@@ -1,6 +1,6 @@
 //! All entries of a row in one block.
 ghost use Rattle.std.specs.Prelude.{◌≡◌, ◌+◌, ◌<◌, ◌≤◌, ◌++◌, [], ◌∷◌, length, vec_capacity};
-ghost use Rattle.iddqd_order.specs.Row.{line, rows};
+ghost use Rattle.iddqd_order.specs.Row.{line, entry_lists};
 
 use super::BlockRow;
 use crate::block::Block;
@@ -8,8 +8,8 @@ use crate::block::Block;
 /// Moves the entries of these blocks, in order, to the end of a block that has memory for them. The blocks go back, and the list
 /// that had them keeps its room.
 fn append_all<E>(from: &mut Vec<Block<E>>, wide: &mut Block<E>)
-    requires { length wide.old.entries + length (line (rows from.old.items)) ≤ wide.old.room }
-    ensures all { wide.new.entries ≡ wide.old.entries ++ line (rows from.old.items) }
+    requires { length wide.old.entries + length (line (entry_lists from.old.items)) ≤ wide.old.room }
+    ensures all { wide.new.entries ≡ wide.old.entries ++ line (entry_lists from.old.items) }
     ensures none { from.new.items ≡ [] }
     ensures room { vec_capacity from.new ≡ vec_capacity from.old }
     ensures no_less { wide.old.room ≤ wide.new.room }

@@ -1,6 +1,6 @@
 //! Memory that a row gives back.
 ghost use Rattle.std.specs.Prelude.{◌≡◌, ◌+◌, ◌*◌, ◌<◌, ◌≤◌, [], length, All, IsTrue};
-ghost use Rattle.iddqd_order.specs.Row.{line, rows};
+ghost use Rattle.iddqd_order.specs.Row.{line, entry_lists};
 
 use super::BlockRow;
 use crate::block::Block;
@@ -140,7 +140,7 @@ impl<E> BlockRow<E> {
 
     /// Returns the blocks of the row. The spare ones go back.
     pub(crate) fn into_blocks(mut self) -> Vec<Block<E>>
-        ensures value { rows result.items ≡ self.blocks }
+        ensures value { entry_lists result.items ≡ self.blocks }
         ensures filled { All (λ b. 0 < length b.entries) result.items }
     {
         self.shed();

@@ -4,7 +4,7 @@ use Rattle.std.specs.Prelude.{slice_get}
 use Rattle.iddqd_ord.specs.Entries.{found_index}
 use Rattle.iddqd_ord.specs.Items.{items}
 use Rattle.iddqd_order.specs.Row.{position}
-use Rattle.iddqd_ord.proofs.RefMuts.{set_read}
+use Rattle.iddqd_ord.proofs.RefLemmas.{set_read}
 use Rattle.iddqd_ord.proofs.entry.OccupiedEntry.insert.Goals as goal
 
 pub replace_in-requires-clause-same_key : goal.replace_in-requires-clause-same_key

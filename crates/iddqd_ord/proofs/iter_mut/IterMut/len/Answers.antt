@@ -1,4 +1,4 @@
-use Rattle.iddqd_ord.proofs.Stepping.{length_between}
+use Rattle.iddqd_ord.proofs.StepLemmas.{length_between}
 use Rattle.iddqd_ord.proofs.iter_mut.IterMut.len.Goals as goal
 
 pub returns : goal.returns

@@ -4,9 +4,9 @@ use Rattle.std.specs.Prelude.{List, slice_get, slice_set}
 use Rattle.iddqd_ord.specs.Items.{items}
 use Rattle.iddqd_ord.specs.Writing.{map_with, position-written}
 use Rattle.iddqd_order.specs.Row.{position}
-use Rattle.iddqd_ord.proofs.Lent.{item_there}
-use Rattle.iddqd_ord.proofs.Rewriting.{written_before}
-use Rattle.iddqd_ord.proofs.Stepping.{front_between, front_first, front_rest, front_behind}
+use Rattle.iddqd_ord.proofs.LentLemmas.{item_there}
+use Rattle.iddqd_ord.proofs.RewriteLemmas.{written_before}
+use Rattle.iddqd_ord.proofs.StepLemmas.{front_between, front_first, front_rest, front_behind}
 use Rattle.iddqd_ord.proofs.iter_mut.IterMut.next_data.Goals as goal
 
 pub returns-in-Some : goal.returns-in-Some

@@ -3,8 +3,8 @@ use Rattle.std.specs.Option.{option_map}
 use Rattle.iddqd_ord.specs.Items.{items}
 use Rattle.iddqd_ord.specs.Writing.{map_with, position-written}
 use Rattle.iddqd_order.specs.Row.{position}
-use Rattle.iddqd_ord.proofs.Lent.{item_there}
-use Rattle.iddqd_ord.proofs.Stepping.{back_between, back_rest, back_done, back_behind, back_last}
+use Rattle.iddqd_ord.proofs.LentLemmas.{item_there}
+use Rattle.iddqd_ord.proofs.StepLemmas.{back_between, back_rest, back_done, back_behind, back_last}
 use Rattle.iddqd_ord.proofs.iter_mut.IterMut.next_data_back.Goals as goal
 
 pub returns-in-Some : goal.returns-in-Some

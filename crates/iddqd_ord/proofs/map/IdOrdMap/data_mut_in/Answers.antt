@@ -1,6 +1,6 @@
 use Rattle.std.proofs.Common.{refl, sym, ap, ◌∙◌}
 use Rattle.std.specs.Cmp.{tied_itself}
-use Rattle.iddqd_ord.proofs.Lent.{IsAscending-written, map_with_is, place_same, place_written, place_kept}
+use Rattle.iddqd_ord.proofs.LentLemmas.{IsAscending-written, map_with_is, place_same, place_written, place_kept}
 use Rattle.iddqd_ord.proofs.map.IdOrdMap.data_mut_in.Goals as goal
 
 pub invariant_of-self-lent : goal.invariant_of-self-lent

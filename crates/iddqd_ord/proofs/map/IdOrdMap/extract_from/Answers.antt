@@ -1,7 +1,7 @@
 use Rattle.std.proofs.Common.{None, length, arith}
 use Rattle.std.specs.Fn.{CalledAt}
 use Rattle.iddqd_ord.specs.Items.{items}
-use Rattle.iddqd_ord.proofs.Taking.{extracted, extracted_by, none_extracted}
+use Rattle.iddqd_ord.proofs.ExtractLemmas.{extracted, extracted_by, none_extracted}
 use Rattle.iddqd_ord.proofs.map.IdOrdMap.extract_from.Goals as goal
 
 pub returns-in_default-clause-extracts_by : goal.returns-in_default-clause-extracts_by

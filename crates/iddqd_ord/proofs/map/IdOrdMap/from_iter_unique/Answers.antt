@@ -1,9 +1,9 @@
-use Rattle.std.proofs.Common.{[], rules, refl, sym, ap, ◌∙◌}
+use Rattle.std.proofs.Common.{[], rules, refl, length, sym, ap, ◌∙◌, arith}
 use Rattle.std.proofs.lemmas.List.Sorted.{IsPermutation-refl}
-use Rattle.iddqd_ord.specs.Items.{items, put}
-use Rattle.iddqd_ord.proofs.Adding.{IsPermutation-added}
-use Rattle.iddqd_ord.proofs.Extending.{fold-push}
-use Rattle.iddqd_ord.proofs.Parts.{found-split}
+use Rattle.iddqd_ord.specs.Items.{items, with_item}
+use Rattle.iddqd_ord.proofs.InsertLemmas.{IsPermutation-added}
+use Rattle.iddqd_ord.proofs.ExtendLemmas.{fold-push}
+use Rattle.iddqd_ord.proofs.PartLemmas.{found-split}
 use Rattle.iddqd_ord.proofs.map.IdOrdMap.from_iter_unique.Goals as goal
 
 pub loop-item-init : goal.loop-item-init
@@ -11,6 +11,8 @@ loop-item-init g c = record {
   callable = search rules;
   ending = search rules;
   added = rw c.new-map.ensures.empty record { lists = refl; all = IsPermutation-refl [] };
+  ascending = rw c.new-map.ensures.empty (λ i j d lt in_range. absurd (omega (arith, in_range)));
+  fits = omega (arith, ap length c.new-map.ensures.empty);
 }
 
 pub loop-item-preserved : goal.loop-item-preserved
@@ -24,9 +26,11 @@ loop-item-preserved g c =
       callable = search rules;
       ending = search rules;
       added = record {
-        lists = gains.lists ∙ ap (λ l. put of cmp l x) at.invariant.added.lists ∙ sym (fold-push (put of cmp) [] at.yielded x);
-        all = IsPermutation-added of cmp x (items at.map) (items c.insert_at.new.self) at.yielded at.invariant.added.all c.in_default.ensures.free gains.lists;
+        lists = gains.lists ∙ ap (λ l. with_item of cmp l x) at.invariant.added.lists ∙ sym (fold-push (with_item of cmp) [] at.yielded x);
+        all = IsPermutation-added of cmp x (items at.map) (items c.insert_or_refuse.new.self) at.yielded at.invariant.added.all c.in_default.ensures.free gains.lists;
       };
+      ascending = c.in_default.ensures.ascending;
+      fits = gains.fits;
     }
 
 pub returns-in-Ok-clause-refused : goal.returns-in-Ok-clause-refused

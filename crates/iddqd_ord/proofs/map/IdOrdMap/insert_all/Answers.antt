@@ -3,7 +3,7 @@ use Rattle.std.specs.Prelude.{vec_len}
 use Rattle.std.proofs.lemmas.Bool.{false≢true}
 use Rattle.std.specs.Vec.Iter.{into_iter_items}
 use Rattle.iddqd_ord.specs.Items.{items}
-use Rattle.iddqd_ord.specs.Puts.{puts}
+use Rattle.iddqd_ord.specs.Extensions.{with_items}
 use Rattle.iddqd_ord.proofs.map.IdOrdMap.insert_all.Goals as goal
 
 none_left : {X : Type 0} (xs : List X) → length xs ≡ 0 → xs ≡ []
@@ -17,7 +17,7 @@ loop-item-init g c =
     record {
       callable = tt;
       ending = tt;
-      all = ap (puts g.T.IdOrdItem g.T.Key.Ord.cmp (items c.args.self.now)) all;
+      all = ap (with_items g.T.IdOrdItem g.T.Key.Ord.cmp (items c.args.self.now)) all;
       free = rw all c.requires.free;
       room = rw all c.requires.room;
       capacity = refl;
@@ -50,4 +50,4 @@ loop-item-preserved g c =
 pub returns-clause-items : goal.returns-clause-items
 returns-clause-items g c =
     let none : into_iter_items c.loop-item.item-iterator ≡ [] = none_left _ (omega (arith, c.loop-item.invariant.counted, c.in-None.ensures.steps.0)) in
-    sym (ap (puts g.T.IdOrdItem g.T.Key.Ord.cmp (items c.loop-item.self)) none) ∙ c.loop-item.invariant.all
+    sym (ap (with_items g.T.IdOrdItem g.T.Key.Ord.cmp (items c.loop-item.self)) none) ∙ c.loop-item.invariant.all

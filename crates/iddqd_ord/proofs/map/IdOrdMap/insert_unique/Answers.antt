@@ -1,9 +1,9 @@
 use Rattle.std.proofs.Common.{◌≡◌, Some, refl, sym, subst, inl, ◌∙◌, arith}
-use Rattle.iddqd_ord.specs.Items.{items, against}
+use Rattle.iddqd_ord.specs.Items.{items, key_comparison}
 use Rattle.iddqd_order.specs.Row.{position, HasEntry}
 use Rattle.iddqd_order.specs.declared.place.Place.{Place}
-use Rattle.iddqd_ord.proofs.Lent.{item_there, found_only}
-use Rattle.iddqd_ord.proofs.Parts.{absent-split, any-found}
+use Rattle.iddqd_ord.proofs.LentLemmas.{item_there, found_only}
+use Rattle.iddqd_ord.proofs.PartLemmas.{absent-split, any-found}
 use Rattle.iddqd_ord.proofs.map.IdOrdMap.insert_unique.Goals as goal
 
 some_same : {X : Type 0} {x y : X} → Some x ≡ Some y → x ≡ y
@@ -17,12 +17,12 @@ invariant_of-self g c =
     let there = item_there (items m) i (omega (arith, split.in_range)) in
     record {
       there = λ x e. subst (λ (p : Place). HasEntry m.blocks p) (some_same e) c.in-Ok.ensures.entry;
-      found_is = rw there.1 (found_only (against g.T.IdOrdItem g.T.Key.Ord.cmp c.args.item) (items m) i split there.0 there.1);
+      found_is = rw there.1 (found_only (key_comparison g.T.IdOrdItem g.T.Key.Ord.cmp c.args.item) (items m) i split there.0 there.1);
     }
 
-pub invariant_of-self-in-Err-insert_at : goal.invariant_of-self-in-Err-insert_at
-invariant_of-self-in-Err-insert_at g c =
-    let arm = c.in-Err-insert_at in
+pub invariant_of-self-in-Err-insert_or_refuse : goal.invariant_of-self-in-Err-insert_or_refuse
+invariant_of-self-in-Err-insert_or_refuse g c =
+    let arm = c.in-Err-insert_or_refuse in
     let gap = rw c.key.ensures at c.in-Err.ensures.gap in
     rw (arm.ensures.handed_back, arm.ensures.unchanged) record {
       there = λ x e. absurd (cc e);
@@ -33,7 +33,7 @@ pub returns-in-Ok : goal.returns-in-Ok
 returns-in-Ok g c =
     let m = c.args.self.now in
     let split = rw c.key.ensures at c.in-Ok.ensures.found in
-    let taken = any-found (against g.T.IdOrdItem g.T.Key.Ord.cmp c.args.item) (items m) (position m.blocks c.in-Ok.place) split in (
+    let taken = any-found (key_comparison g.T.IdOrdItem g.T.Key.Ord.cmp c.args.item) (items m) (position m.blocks c.in-Ok.place) split in (
       (refl, (λ w. refl), tt),
       record {
         ends = tt;

@@ -1,15 +1,15 @@
 use Rattle.std.proofs.Common.{sym, ◌∙◌}
 use Rattle.std.specs.Map.Iter.{deref}
 use Rattle.std_collections.proofs.IterRuns.{shows_in_order, shows_in_reverse}
-use Rattle.iddqd_ord.proofs.Parts.{filter-between}
-use Rattle.iddqd_ord.proofs.Matching.{filter-sides}
+use Rattle.iddqd_ord.proofs.PartLemmas.{filter-between}
+use Rattle.iddqd_ord.proofs.MatchLemmas.{filter-sides}
 use Rattle.iddqd_ord.proofs.map.IdOrdMap.matching.Goals as goal
 
 pub returns-clause-gives : goal.returns-clause-gives
 returns-clause-gives g c =
     let key = g.T.IdOrdItem.key in
-    let from = rw (← c.self.view_is) at c.first_from-next.ensures.cut in
-    let to = rw (← c.self.view_is) at c.first_past-end.ensures.cut in
+    let from = rw (← c.self.view_is) at c.range_start-next.ensures.starts in
+    let to = rw (← c.self.view_is) at c.range_end-end.ensures.starts in
     rw (← c.self.view_is) (
     c.range.ensures
     ∙ sym (filter-between _ _ _ _ _ from to)

@@ -1,4 +1,4 @@
-use Rattle.iddqd_ord.proofs.Taking.{passes}
+use Rattle.iddqd_ord.proofs.ExtractLemmas.{passes}
 use Rattle.iddqd_ord.proofs.map.IdOrdMap.pass_next.Goals as goal
 
 pub returns-clause-passes : goal.returns-clause-passes

@@ -1,27 +1,21 @@
-use Rattle.std.proofs.lemmas.Result.{IfOk-weaker, IfErr-weaker}
+use Rattle.std.proofs.lemmas.Result.{IfOk-weaker}
 use Rattle.iddqd_order.specs.Row.{line}
-use Rattle.iddqd_ord.specs.Ordered.{IsRising-at}
-use Rattle.iddqd_ord.proofs.Ordering.{searchable, IsSplit-found, IsSplit-gap}
+use Rattle.iddqd_ord.specs.Ordered.{IsRising-at, IsSeeking-rising}
+use Rattle.iddqd_ord.proofs.OrderLemmas.{searchable, IsSplit-last}
 use Rattle.iddqd_ord.proofs.map.IdOrdMap.place_of.Goals as goal
 
 pub search-requires-clause-ordered : goal.search-requires-clause-ordered
 search-requires-clause-ordered g c =
     let key = g.T.IdOrdItem.key in
     let rises = IsRising-at g.T.Key.Ord.cmp key (g.Q.OrdQuery.compare c.args.query) (g.met.Q.OrdQuery.rises c.args.query) in
-    searchable g.met.T.Key.Ord.total key (line c.self.inside.items.blocks) c.self.invariant (λ x. g.Q.OrdQuery.compare c.args.query (key x)) rises
+    searchable g.T.Key.Ord.cmp key (line c.self.inside.items.blocks) c.self.invariant (λ x. g.Q.OrdQuery.compare c.args.query (key x)) (IsSeeking-rising rises)
 
 pub returns-clause-found : goal.returns-clause-found
 returns-clause-found g c =
     let key = g.T.IdOrdItem.key in
     let xs = line c.self.inside.items.blocks in
     let rises = IsRising-at g.T.Key.Ord.cmp key (g.Q.OrdQuery.compare c.args.query) (g.met.Q.OrdQuery.rises c.args.query) in
-    rw (← c.self.view_is) (IfOk-weaker c.search.result _ _ (λ p found. IsSplit-found g.met.T.Key.Ord.total key xs c.self.invariant (λ x. g.Q.OrdQuery.compare c.args.query (key x)) rises _ found) c.search.ensures.found)
-
-pub returns-clause-gap : goal.returns-clause-gap
-returns-clause-gap g c =
-    let key = g.T.IdOrdItem.key in
-    let xs = line c.self.inside.items.blocks in
-    rw (← c.self.view_is) (IfErr-weaker c.search.result _ _ (λ p gap. IsSplit-gap (λ x. g.Q.OrdQuery.compare c.args.query (key x)) xs _ gap) c.search.ensures.gap)
+    rw (← c.self.view_is) (IfOk-weaker c.search.result _ _ (λ p found. IsSplit-last g.met.T.Key.Ord.total key xs c.self.invariant (λ x. g.Q.OrdQuery.compare c.args.query (key x)) rises _ found) c.search.ensures.found)
 
 pub returns-clause-ascending : goal.returns-clause-ascending
 returns-clause-ascending g c = rw (← c.self.view_is) c.self.invariant

@@ -1,4 +1,4 @@
-use Rattle.iddqd_ord.proofs.Taking.{popped}
+use Rattle.iddqd_ord.proofs.ExtractLemmas.{popped}
 use Rattle.iddqd_ord.proofs.map.IdOrdMap.pop_from.Goals as goal
 
 pub returns-clause-pops_from : goal.returns-clause-pops_from

@@ -1,14 +1,14 @@
 use Rattle.std.proofs.Common.{sym, ◌∙◌}
 use Rattle.std.specs.Map.Iter.{deref}
 use Rattle.std_collections.proofs.IterRuns.{shows_in_order, shows_in_reverse}
-use Rattle.iddqd_ord.proofs.Parts.{filter-between}
-use Rattle.iddqd_ord.proofs.Walking.{meets_first, meets_last}
+use Rattle.iddqd_ord.proofs.PartLemmas.{filter-between}
+use Rattle.iddqd_ord.proofs.WalkLemmas.{meets_first, meets_last}
 use Rattle.iddqd_ord.proofs.map.IdOrdMap.range.Goals as goal
 
 pub returns-clause-gives : goal.returns-clause-gives
 returns-clause-gives g c = λ has.
-    let from = rw (c.start_bound.ensures has, ← c.self.view_is) at c.first_from-next.ensures.cut in
-    let to = rw (c.end_bound.ensures has, ← c.self.view_is) at c.first_past-end.ensures.cut in
+    let from = rw (c.start_bound.ensures has, ← c.self.view_is) at c.range_start-next.ensures.starts in
+    let to = rw (c.end_bound.ensures has, ← c.self.view_is) at c.range_end-end.ensures.starts in
     rw (← c.self.view_is) (c.range.ensures ∙ sym (filter-between _ _ _ _ _ from to))
 
 pub returns-clause-runs : goal.returns-clause-runs

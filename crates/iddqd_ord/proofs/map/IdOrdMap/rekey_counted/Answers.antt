@@ -5,8 +5,8 @@ use Rattle.std.proofs.lemmas.Bool.{false≢true}
 use Rattle.std.proofs.lemmas.List.Edits.{length-remove}
 use Rattle.iddqd_order.specs.Row.{position}
 use Rattle.iddqd_ord.specs.Items.{items}
-use Rattle.iddqd_ord.proofs.Parts.{any-absent, any-found, found-split}
-use Rattle.iddqd_ord.proofs.Rekeying.{absent_then, is_eq-not, others_taken, PutsAmong-moved, PutsAmong-replaced}
+use Rattle.iddqd_ord.proofs.PartLemmas.{any-absent, any-found, found-split}
+use Rattle.iddqd_ord.proofs.RekeyLemmas.{absent_then, is_eq-not, others_taken, PutsAmong-moved, PutsAmong-replaced}
 use Rattle.iddqd_ord.proofs.map.IdOrdMap.rekey_counted.Goals as goal
 
 pub returns-in_default-clause-reason : goal.returns-in_default-clause-reason
@@ -50,7 +50,7 @@ pub insert_within-requires-clause-room : goal.insert_within-requires-clause-room
 insert_within-requires-clause-room g c =
     let m = c.args.self.now in
     let fewer = length-remove (items m) (position m.blocks c.in-Ok.place) c.remove_in-old.ensures.within in
-    omega (arith, ap length c.remove_in-old.ensures.rest, fewer, c.note_order.ensures.fits, c.remove_in-old.ensures.capacity)
+    omega (arith, ap length c.remove_in-old.ensures.rest, fewer, c.place_of.ensures.fits, c.remove_in-old.ensures.capacity)
 
 pub returns-in-Err-place_of-clause-found : goal.returns-in-Err-place_of-clause-found
 returns-in-Err-place_of-clause-found g c = found-split _ _ _ c.in-Ok.ensures.found _ (c.remove_in-old.ensures.item _)

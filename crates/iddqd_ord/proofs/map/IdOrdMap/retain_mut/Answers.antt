@@ -3,8 +3,8 @@ use Rattle.std.specs.Fn.{CalledAt}
 use Rattle.iddqd_store.proofs.BagLemmas.Calling.{TakesEach-in_turn, takes_first, takes_others}
 use Rattle.iddqd_ord.specs.Items.{items}
 use Rattle.iddqd_order.specs.Row.{position, index_of}
-use Rattle.iddqd_ord.proofs.Rewriting.{from_index, completes_next, completes_all, filter_maps_rewritten, length_rewritten}
-use Rattle.iddqd_ord.proofs.Visiting.{all_passed}
+use Rattle.iddqd_ord.proofs.RewriteLemmas.{from_index, completes_next, completes_all, filter_maps_rewritten, length_rewritten}
+use Rattle.iddqd_ord.proofs.VisitLemmas.{all_passed}
 use Rattle.iddqd_ord.proofs.map.IdOrdMap.retain_mut.Goals as goal
 
 pub loop-next-init : goal.loop-next-init

@@ -4,7 +4,7 @@ use Rattle.std.specs.Fn.{CalledAt}
 use Rattle.iddqd_store.proofs.BagLemmas.Calling.{TakesEach}
 use Rattle.iddqd_ord.specs.Items.{items}
 use Rattle.iddqd_order.specs.Row.{index_of, HasEntry}
-use Rattle.iddqd_ord.proofs.Rewriting.{Completes}
+use Rattle.iddqd_ord.proofs.RewriteLemmas.{Completes}
 use Rattle.iddqd_ord.proofs.map.IdOrdMap.retain_mut.Given as goal
 
 abbrev pub invariant-loop-next : goal.invariant-loop-next

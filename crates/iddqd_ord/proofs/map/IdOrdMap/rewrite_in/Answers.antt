@@ -2,7 +2,7 @@ use Rattle.std.proofs.Common.{Some, None, ◌∙◌}
 use Rattle.std.proofs.lemmas.Fn.{called_at}
 use Rattle.iddqd_ord.specs.Items.{items}
 use Rattle.iddqd_ord.specs.Writing.{HasEntry-written}
-use Rattle.iddqd_ord.proofs.Rewriting.{item_at, next_index, removed_before, written_before, written_behind}
+use Rattle.iddqd_ord.proofs.RewriteLemmas.{item_at, next_index, removed_before, written_before, written_behind}
 use Rattle.iddqd_ord.proofs.map.IdOrdMap.rewrite_in.Goals as goal
 
 pub next_place-requires : goal.next_place-requires

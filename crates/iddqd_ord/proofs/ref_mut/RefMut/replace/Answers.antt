@@ -3,7 +3,7 @@ use Rattle.std.proofs.lemmas.Option.{get_or_from_slice_get, slice_get_within}
 use Rattle.std.specs.Prelude.{slice_get}
 use Rattle.iddqd_ord.specs.Items.{items}
 use Rattle.iddqd_ord.specs.RefMuts.{ref_index}
-use Rattle.iddqd_ord.proofs.RefMuts.{set_read}
+use Rattle.iddqd_ord.proofs.RefLemmas.{set_read}
 use Rattle.iddqd_ord.proofs.ref_mut.RefMut.replace.Goals as goal
 
 pub replace_in-requires-clause-same_key : goal.replace_in-requires-clause-same_key

@@ -1,5 +1,5 @@
 use Rattle.std.proofs.Common.{arith}
-use Rattle.iddqd_order.proofs.Lines.{start_of-next}
+use Rattle.iddqd_order.proofs.LineLemmas.{start_of-next}
 use Rattle.iddqd_order.proofs.blocks.Blocks.entry_from.Goals as goal
 
 pub loop-place-preserved : goal.loop-place-preserved

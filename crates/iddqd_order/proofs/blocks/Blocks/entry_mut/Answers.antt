@@ -1,8 +1,8 @@
 use Rattle.std.proofs.Common.{length, set, refl, sym, ap, ◌∙◌, arith}
 use Rattle.std.proofs.lemmas.List.{length-set}
 use Rattle.iddqd_order.specs.Row.{line, block_at, position}
-use Rattle.iddqd_order.proofs.Lines.{read_any, entry_at_position, line_replaced}
-use Rattle.iddqd_order.proofs.Places.{position-below}
+use Rattle.iddqd_order.proofs.LineLemmas.{read_any, entry_at_position, line_replaced}
+use Rattle.iddqd_order.proofs.PlaceLemmas.{position-below}
 use Rattle.iddqd_order.proofs.blocks.Blocks.entry_mut.Goals as goal
 
 pub invariant_of-self-lent : goal.invariant_of-self-lent

@@ -1,6 +1,6 @@
 use Rattle.std.proofs.Common.{◌≡◌, ◌+◌, ◌-◌, ap, arith}
 use Rattle.iddqd_order.specs.Row.{start_of}
-use Rattle.iddqd_order.proofs.Lines.{start_of-next}
+use Rattle.iddqd_order.proofs.LineLemmas.{start_of-next}
 use Rattle.iddqd_order.proofs.blocks.Blocks.previous.Goals as goal
 
 pub returns-clause-index : goal.returns-clause-index

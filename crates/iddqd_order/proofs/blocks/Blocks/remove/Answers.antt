@@ -1,8 +1,8 @@
 use Rattle.std.proofs.Common.{ℕ, ◌*◌, length, ap, ◌∙◌, arith}
 use Rattle.std.proofs.lemmas.List.Edits.{length-remove}
 use Rattle.iddqd_order.specs.Row.{line, position}
-use Rattle.iddqd_order.proofs.Lines.{read_any}
-use Rattle.iddqd_order.proofs.Places.{position-below}
+use Rattle.iddqd_order.proofs.LineLemmas.{read_any}
+use Rattle.iddqd_order.proofs.PlaceLemmas.{position-below}
 use Rattle.iddqd_order.proofs.blocks.Blocks.remove.Goals as goal
 
 pub overflow_sub-self : goal.overflow_sub-self

@@ -1,8 +1,8 @@
 use Rattle.std.proofs.Common.{length, set, sym, ap, ◌∙◌, arith}
 use Rattle.std.proofs.lemmas.List.{length-set}
 use Rattle.iddqd_order.specs.Row.{line, block_at, position}
-use Rattle.iddqd_order.proofs.Lines.{read_any, entry_at_position, line_replaced}
-use Rattle.iddqd_order.proofs.Places.{position-same, HasEntry-same}
+use Rattle.iddqd_order.proofs.LineLemmas.{read_any, entry_at_position, line_replaced}
+use Rattle.iddqd_order.proofs.PlaceLemmas.{position-same, HasEntry-same}
 use Rattle.iddqd_order.proofs.blocks.Blocks.replace.Goals as goal
 
 pub invariant_of-self : goal.invariant_of-self

@@ -1,7 +1,7 @@
 use Rattle.std.proofs.Common.{◌≡◌, ◌≢◌, ℕ, ◌+◌, ◌-◌, ◌<◌, ◌≤◌, length, ap, ◌∙◌, arith, inl, inr}
 use Rattle.std.proofs.lemmas.Bool.{cases_lt, cases_eq}
 use Rattle.iddqd_order.specs.Row.{block_at, start_of}
-use Rattle.iddqd_order.proofs.Lines.{start_of-next, all_full}
+use Rattle.iddqd_order.proofs.LineLemmas.{start_of-next, all_full}
 use Rattle.iddqd_order.proofs.blocks.shifts.shift.Goals as goal
 
 pub returns-in-Some-clause-same : goal.returns-in-Some-clause-same

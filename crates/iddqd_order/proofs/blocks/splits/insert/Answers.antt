@@ -3,8 +3,8 @@ use Rattle.std.proofs.lemmas.List.{length-set, get_or-set_same, nil_from_length}
 use Rattle.std.proofs.lemmas.List.Edits.{length-insert}
 use Rattle.std.specs.List.{insert}
 use Rattle.iddqd_order.specs.Row.{line, block_at, start_of, position}
-use Rattle.iddqd_order.proofs.Places.{start_of-set, position-past}
-use Rattle.iddqd_order.proofs.Lines.{line_inserted}
+use Rattle.iddqd_order.proofs.PlaceLemmas.{start_of-set, position-past}
+use Rattle.iddqd_order.proofs.LineLemmas.{line_inserted}
 use Rattle.iddqd_order.proofs.blocks.splits.insert.Goals as goal
 
 pub returns-clause-entries : goal.returns-clause-entries

@@ -1,6 +1,6 @@
 use Rattle.std.proofs.Common.{◌≡◌, ◌<◌, length, ap, arith}
 use Rattle.iddqd_order.specs.Row.{start_of}
-use Rattle.iddqd_order.proofs.Lines.{length_parts, start_of-next}
+use Rattle.iddqd_order.proofs.LineLemmas.{length_parts, start_of-next}
 use Rattle.iddqd_order.proofs.blocks.splits.position_of.Goals as goal
 
 pub overflow_add-before : goal.overflow_add-before

@@ -1,56 +1,56 @@
 use Rattle.std.proofs.Common.{◌≡◌, ℕ, ◌+◌, length, take, drop, ap, add-one, arith}
 use Rattle.std.proofs.lemmas.List.{length-take-le, length-drop, take-append-drop}
 use Rattle.iddqd_order.specs.Row.{block_at}
-use Rattle.iddqd_order.proofs.Lines.{line_split}
-use Rattle.iddqd_order.proofs.Places.{block_at-head, block_at-tail, length-split, start_of-head, start_of-tail}
+use Rattle.iddqd_order.proofs.LineLemmas.{line_split}
+use Rattle.iddqd_order.proofs.PlaceLemmas.{block_at-head, block_at-tail, length-split, start_of-head, start_of-tail}
 use Rattle.iddqd_order.proofs.blocks.splits.split.Goals as goal
 
--- before the cut
-pub returns-then-place-cut-clause-entries : goal.returns-then-place-cut-clause-entries
-returns-then-place-cut-clause-entries g c =
+-- before the offset
+pub returns-then-place-offset-clause-entries : goal.returns-then-place-offset-clause-entries
+returns-then-place-offset-clause-entries g c =
     let row = c.args.row.now.blocks in
     let b = c.args.place.block in
-    let cut = c.cut_for-cut.result in
+    let offset = c.split_offset-offset.result in
     let block = block_at row b in
-    let many : length c.split.new.self.blocks ≡ length row + 1 = rw (c.split.ensures.blocks, add-one) (length-split row b (take cut block) (drop cut block) c.requires.place.block) in
+    let many : length c.split.new.self.blocks ≡ length row + 1 = rw (c.split.ensures.blocks, add-one) (length-split row b (take offset block) (drop offset block) c.requires.place.block) in
     record {
-      entries = rw (c.split.ensures.blocks, add-one) (line_split row b (take cut block) (drop cut block) c.requires.place.block (take-append-drop cut block));
+      entries = rw (c.split.ensures.blocks, add-one) (line_split row b (take offset block) (drop offset block) c.requires.place.block (take-append-drop offset block));
       total = omega (arith, many, c.split.ensures.spare);
       memory = c.split.ensures.memory;
       most = c.split.ensures.most;
     }
 
-pub returns-then-place-cut-clause-room : goal.returns-then-place-cut-clause-room
-returns-then-place-cut-clause-room g c =
+pub returns-then-place-offset-clause-room : goal.returns-then-place-offset-clause-room
+returns-then-place-offset-clause-room g c =
     let row = c.args.row.now.blocks in
     let b = c.args.place.block in
-    let cut = c.cut_for-cut.result in
+    let offset = c.split_offset-offset.result in
     let block = block_at row b in
     let within = c.requires.place.block in
     let full = c.requires.full in
-    let head = length-take-le cut block (omega (arith, full, c.cut_for-cut.ensures.most, c.memory.ensures)) in
-    let long = length-split row b (take cut block) (drop cut block) within in
-    let here = ap length (block_at-head row b (take cut block) (drop cut block) within) in
-    rw (c.split.ensures.blocks, add-one) (record { block = omega (arith, long, within); offset = omega (arith, here, head); room = omega (arith, here, head, c.cut_for-cut.ensures.most, c.memory.ensures, c.split.ensures.memory) })
+    let head = length-take-le offset block (omega (arith, full, c.split_offset-offset.ensures.most, c.memory.ensures)) in
+    let long = length-split row b (take offset block) (drop offset block) within in
+    let here = ap length (block_at-head row b (take offset block) (drop offset block) within) in
+    rw (c.split.ensures.blocks, add-one) (record { block = omega (arith, long, within); offset = omega (arith, here, head); room = omega (arith, here, head, c.split_offset-offset.ensures.most, c.memory.ensures, c.split.ensures.memory) })
 
-pub returns-then-place-cut-clause-same : goal.returns-then-place-cut-clause-same
-returns-then-place-cut-clause-same g c =
+pub returns-then-place-offset-clause-same : goal.returns-then-place-offset-clause-same
+returns-then-place-offset-clause-same g c =
     let row = c.args.row.now.blocks in
     let b = c.args.place.block in
-    let cut = c.cut_for-cut.result in
+    let offset = c.split_offset-offset.result in
     let block = block_at row b in
-    rw (c.split.ensures.blocks, add-one) (ap (λ (n : ℕ). n + c.args.place.offset) (start_of-head row b (take cut block) (drop cut block) c.requires.place.block))
+    rw (c.split.ensures.blocks, add-one) (ap (λ (n : ℕ). n + c.args.place.offset) (start_of-head row b (take offset block) (drop offset block) c.requires.place.block))
 
--- after the cut
+-- after the offset
 pub returns-clause-entries : goal.returns-clause-entries
 returns-clause-entries g c =
     let row = c.args.row.now.blocks in
     let b = c.args.place.block in
-    let cut = c.cut_for-cut.result in
+    let offset = c.split_offset-offset.result in
     let block = block_at row b in
-    let many : length c.split.new.self.blocks ≡ length row + 1 = rw (c.split.ensures.blocks, add-one) (length-split row b (take cut block) (drop cut block) c.requires.place.block) in
+    let many : length c.split.new.self.blocks ≡ length row + 1 = rw (c.split.ensures.blocks, add-one) (length-split row b (take offset block) (drop offset block) c.requires.place.block) in
     record {
-      entries = rw (c.split.ensures.blocks, add-one) (line_split row b (take cut block) (drop cut block) c.requires.place.block (take-append-drop cut block));
+      entries = rw (c.split.ensures.blocks, add-one) (line_split row b (take offset block) (drop offset block) c.requires.place.block (take-append-drop offset block));
       total = omega (arith, many, c.split.ensures.spare);
       memory = c.split.ensures.memory;
       most = c.split.ensures.most;
@@ -60,25 +60,25 @@ pub returns-clause-room : goal.returns-clause-room
 returns-clause-room g c =
     let row = c.args.row.now.blocks in
     let b = c.args.place.block in
-    let cut = c.cut_for-cut.result in
+    let offset = c.split_offset-offset.result in
     let block = block_at row b in
     let within = c.requires.place.block in
     let full = c.requires.full in
-    let tail = length-drop cut block in
-    let long = length-split row b (take cut block) (drop cut block) within in
-    let here = ap length (block_at-tail row b (take cut block) (drop cut block) within) in
+    let tail = length-drop offset block in
+    let long = length-split row b (take offset block) (drop offset block) within in
+    let here = ap length (block_at-tail row b (take offset block) (drop offset block) within) in
     rw (c.split.ensures.blocks, add-one) (record {
       block = omega (arith, long, within);
       offset = omega (arith, here, tail, full, c.requires.place.offset);
-      room = omega (arith, here, tail, full, c.cut_for-cut.ensures.some, c.cut_for-cut.ensures.most, c.memory.ensures, c.split.ensures.memory);
+      room = omega (arith, here, tail, full, c.split_offset-offset.ensures.some, c.split_offset-offset.ensures.most, c.memory.ensures, c.split.ensures.memory);
     })
 
 pub returns-clause-same : goal.returns-clause-same
 returns-clause-same g c =
     let row = c.args.row.now.blocks in
     let b = c.args.place.block in
-    let cut = c.cut_for-cut.result in
+    let offset = c.split_offset-offset.result in
     let block = block_at row b in
     let within = c.requires.place.block in
-    let head = length-take-le cut block (omega (arith, c.requires.full, c.cut_for-cut.ensures.most, c.memory.ensures)) in
-    rw (c.split.ensures.blocks, add-one) (omega (arith, start_of-tail row b (take cut block) (drop cut block) within, head))
+    let head = length-take-le offset block (omega (arith, c.requires.full, c.split_offset-offset.ensures.most, c.memory.ensures)) in
+    rw (c.split.ensures.blocks, add-one) (omega (arith, start_of-tail row b (take offset block) (drop offset block) within, head))

@@ -1,7 +1,7 @@
 use Rattle.std.proofs.Common.{◌≡◌, ◌+◌, ◌-◌, ap, arith}
 use Rattle.iddqd_order.specs.Row.{start_of}
-use Rattle.iddqd_order.proofs.Lines.{start_of-next, start_of-all}
-use Rattle.iddqd_order.proofs.Places.{position-past}
+use Rattle.iddqd_order.proofs.LineLemmas.{start_of-next, start_of-all}
+use Rattle.iddqd_order.proofs.PlaceLemmas.{position-past}
 use Rattle.iddqd_order.proofs.blocks.splits.within.Goals as goal
 
 pub returns-then-place-count-clause-same : goal.returns-then-place-count-clause-same

@@ -1,8 +1,8 @@
 use Rattle.std.proofs.Common.{◌≡◌, ℕ, ◌+◌, ◌≤◌, List, ◌++◌, length, sym, ap, ◌∙◌, arith}
 use Rattle.std.specs.Prelude.{slice_range}
 use Rattle.std.proofs.lemmas.List.{append-nil}
-use Rattle.iddqd_order.specs.Row.{line, rows, block_at, start_of, position}
-use Rattle.iddqd_order.proofs.Parts.{range_before, range_block, range_across, range_le}
+use Rattle.iddqd_order.specs.Row.{line, entry_lists, block_at, start_of, position}
+use Rattle.iddqd_order.proofs.PartLemmas.{range_before, range_block, range_across, range_le}
 use Rattle.iddqd_order.proofs.iter.Iter.part.Goals as goal
 
 pub returns-then-to-from : goal.returns-then-to-from
@@ -25,7 +25,7 @@ returns g c =
     let b = c.args.to.block in
     let front = rw c.len_at.ensures.value at c.part_of-2.ensures in
     let back = c.part_of-3.result.now in
-    ap (λ (q : List g.row.E.Denot). q ++ (line (rows c.between.result.now) ++ back)) front
+    ap (λ (q : List g.row.E.Denot). q ++ (line (entry_lists c.between.result.now) ++ back)) front
     ∙ ap (λ (q : List (List g.row.E.Denot)). slice_range (block_at row a) c.args.from.offset (length (block_at row a)) ++ (line q ++ back)) c.between.ensures.value
     ∙ ap (λ (q : List g.row.E.Denot). slice_range (block_at row a) c.args.from.offset (length (block_at row a)) ++ (line (slice_range row (a + 1) b) ++ q)) c.part_of-3.ensures
     ∙ range_across row a c.args.from.offset b c.args.to.offset (omega arith) c.requires.to.block c.requires.from.offset c.requires.to.offset

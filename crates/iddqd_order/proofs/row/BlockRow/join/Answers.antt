@@ -3,41 +3,41 @@ use Rattle.std.proofs.lemmas.List.{length-set, length_push, length-append}
 use Rattle.std.proofs.lemmas.List.Edits.{length-remove}
 use Rattle.std.proofs.lemmas.List.Elements.{All-set, All-push}
 use Rattle.iddqd_order.specs.Row.{IsHeld, IsSpare}
-use Rattle.iddqd_order.proofs.Lines.{length-rows, rows_joined, joined_lengths, All-remove, All-read}
+use Rattle.iddqd_order.proofs.LineLemmas.{length-entry_lists, entry_lists_joined, joined_lengths, All-remove, All-read}
 use Rattle.iddqd_order.proofs.row.BlockRow.join.Goals as goal
 
 pub append-requires : goal.append-requires
 append-requires g c =
-    let runs = c.self.inside.blocks.items in
+    let values = c.self.inside.blocks.items in
     let at = c.args.at in
     let i = c.self.invariant in
     let there = rw (← c.self.view_is) at c.requires.within in
-    let within : at + 1 < length runs = omega (arith, there, length-rows runs) in
-    let next = All-read (IsHeld c.self.inside.memory) runs (at + 1) _ within c.remove-next.ensures.value i.held in
-    let fewer : length c.remove-next.new.self.items + 1 ≡ length runs = ap (λ q. length q + 1) c.remove-next.ensures.items ∙ length-remove runs (at + 1) within in
-    let left = rw (← c.remove-next.ensures.items) at (All-remove (IsHeld c.self.inside.memory) runs (at + 1) i.held) in
+    let within : at + 1 < length values = omega (arith, there, length-entry_lists values) in
+    let next = All-read (IsHeld c.self.inside.memory) values (at + 1) _ within c.remove-next.ensures.value i.held in
+    let fewer : length c.remove-next.new.self.items + 1 ≡ length values = ap (λ q. length q + 1) c.remove-next.ensures.items ∙ length-remove values (at + 1) within in
+    let left = rw (← c.remove-next.ensures.items) at (All-remove (IsHeld c.self.inside.memory) values (at + 1) i.held) in
     let head = All-read (IsHeld c.self.inside.memory) c.remove-next.new.self.items at _ (omega (arith, fewer)) c.index_mut-block.ensures.value left in
     let fits = rw (← c.self.view_is) at c.requires.fits in
-    let long = joined_lengths runs c.remove-next.new.self.items at _ _ within c.remove-next.ensures.items c.remove-next.ensures.value c.index_mut-block.ensures.value in
+    let long = joined_lengths values c.remove-next.new.self.items at _ _ within c.remove-next.ensures.items c.remove-next.ensures.value c.index_mut-block.ensures.value in
     omega (arith, fits, head.room, long.0, long.1)
 
 pub invariant_of-self : goal.invariant_of-self
 invariant_of-self g c =
-    let runs = c.self.inside.blocks.items in
+    let values = c.self.inside.blocks.items in
     let at = c.args.at in
     let i = c.self.invariant in
     let memory = c.self.inside.memory in
     let there = rw (← c.self.view_is) at c.requires.within in
-    let within : at + 1 < length runs = omega (arith, there, length-rows runs) in
-    let fewer : length c.remove-next.new.self.items + 1 ≡ length runs = ap (λ q. length q + 1) c.remove-next.ensures.items ∙ length-remove runs (at + 1) within in
-    let left = rw (← c.remove-next.ensures.items) at (All-remove (IsHeld memory) runs (at + 1) i.held) in
-    let next = All-read (IsHeld memory) runs (at + 1) _ within c.remove-next.ensures.value i.held in
+    let within : at + 1 < length values = omega (arith, there, length-entry_lists values) in
+    let fewer : length c.remove-next.new.self.items + 1 ≡ length values = ap (λ q. length q + 1) c.remove-next.ensures.items ∙ length-remove values (at + 1) within in
+    let left = rw (← c.remove-next.ensures.items) at (All-remove (IsHeld memory) values (at + 1) i.held) in
+    let next = All-read (IsHeld memory) values (at + 1) _ within c.remove-next.ensures.value i.held in
     let head = All-read (IsHeld memory) c.remove-next.new.self.items at _ (omega (arith, fewer)) c.index_mut-block.ensures.value left in
     let longer = ap length c.push_reserved.ensures.items ∙ length_push c.self.inside.spare.items c.append.new.next in
     let same = length-set c.remove-next.new.self.items at c.append.new.self in
     let sum = ap length c.append.ensures.all ∙ length-append c.index_mut-block.result.now.entries c.remove-next.result.entries in
     let fits = rw (← c.self.view_is) at c.requires.fits in
-    let long = joined_lengths runs c.remove-next.new.self.items at _ _ within c.remove-next.ensures.items c.remove-next.ensures.value c.index_mut-block.ensures.value in
+    let long = joined_lengths values c.remove-next.new.self.items at _ _ within c.remove-next.ensures.items c.remove-next.ensures.value c.index_mut-block.ensures.value in
     record {
       held = All-set (IsHeld memory) c.remove-next.new.self.items at c.append.new.self (record {
         room = omega (arith, head.room, c.append.ensures.no_less);
@@ -56,10 +56,10 @@ invariant_of-self g c =
 
 pub returns-clause-blocks : goal.returns-clause-blocks
 returns-clause-blocks g c =
-    let runs = c.self.inside.blocks.items in
+    let values = c.self.inside.blocks.items in
     let at = c.args.at in
     let there = rw (← c.self.view_is) at c.requires.within in
-    let within : at + 1 < length runs = omega (arith, there, length-rows runs) in
+    let within : at + 1 < length values = omega (arith, there, length-entry_lists values) in
     let next = c.remove-next.ensures in
     let head = c.index_mut-block.ensures.value in
-    rw (← c.self.view_is) (rows_joined runs c.remove-next.new.self.items at _ _ c.append.new.self within next.items next.value head c.append.ensures.all)
+    rw (← c.self.view_is) (entry_lists_joined values c.remove-next.new.self.items at _ _ c.append.new.self within next.items next.value head c.append.ensures.all)

@@ -3,8 +3,8 @@ use Rattle.std.specs.List.{remove}
 use Rattle.std.proofs.lemmas.List.{length-set, get_or-set_same}
 use Rattle.std.proofs.lemmas.List.Edits.{length-remove}
 use Rattle.iddqd_order.specs.Row.{line, block_at, start_of}
-use Rattle.iddqd_order.proofs.Lines.{entry_at_position, line_removed, only-value, only-removed, only-start}
-use Rattle.iddqd_order.proofs.Places.{start_of-set}
+use Rattle.iddqd_order.proofs.LineLemmas.{entry_at_position, line_removed, only-value, only-removed, only-start}
+use Rattle.iddqd_order.proofs.PlaceLemmas.{start_of-set}
 use Rattle.iddqd_order.proofs.row.BlockRow.remove.Goals as goal
 
 pub returns-then-len_at-eq1-clause-value : goal.returns-then-len_at-eq1-clause-value
