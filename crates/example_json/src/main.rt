@@ -1,12 +1,14 @@
-//! Reads lines of JSON, and writes what it read. A line is a hub with devices, a list of devices, a rack with cables and devices, or
-//! a team of users:
+//! Reads lines of JSON, and writes what it read. A line is a hub with devices, a list of devices, a rack with cables and devices, a
+//! team of users, a site of people and devices, or devices under their serial numbers:
 //!
 //!     {"name":"attic","devices":[{"serial":1,"port":2,"label":"lamp"}]}
 //!     [{"serial":1,"port":2,"label":"lamp"}]
 //!     {"cables":[{"number":1,"from":2,"to":3}],"devices":[]}
 //!     {"users":[{"name":"ada","seen":1}]}
+//!     {"people":{"ada":{"name":"ada","seen":1}},"devices":{}}
+//!     {"1":{"serial":1,"port":2,"label":"lamp"}}
 //!
-//! It answers each line by the same hub, devices, rack or team, in the order of their maps, or else by `not read: MESSAGE`. The message
+//! It answers each line by the same hub, devices, rack, team or site, in the order of their maps, or else by `not read: MESSAGE`. The message
 //! has the line and the column of the text that was refused, but for a rack that is read from a value. The line is 1, since each text
 //! is one line. A rack is read twice, and answered twice: from its text, and from a value that was read from the text. A line that is not
 //! UTF-8 is not read either.
@@ -14,10 +16,12 @@
 
 mod hub;
 mod racks;
+mod site;
 mod team;
 
 use crate::hub::{read_devices, read_hub, write_devices, write_hub};
 use crate::racks::{rewritten, rewritten_from_value};
+use crate::site::{read_numbered, read_site, write_numbered, write_site};
 use crate::team::{read_team, write_team};
 use serde_json::Error;
 use std::alloc::Global;
@@ -31,6 +35,12 @@ fn answer(alloc: Global, line: &[u8]) -> Result<String, Error> {
     }
     if line.starts_with(b"{\"users\"") {
         return write_team(alloc, &read_team(alloc, line)?);
+    }
+    if line.starts_with(b"{\"people\"") {
+        return write_site(alloc, &read_site(alloc, line)?);
+    }
+    if line.get(2).is_some_and(u8::is_ascii_digit) {
+        return write_numbered(alloc, &read_numbered(alloc, line)?);
     }
     write_hub(alloc, &read_hub(alloc, line)?)
 }

@@ -1,23 +1,21 @@
--- One item more was read, and one more is in the map.
-use Rattle.std.specs.Prelude.{filter}
+-- One item more was read, and one more is in the map; and items are written behind their keys.
+use Rattle.std.specs.Prelude.{filter, map}
 use Rattle.std.specs.List.{list_any}
 use Rattle.std.specs.Ordering.{is_lt, is_eq, is_gt}
 use Rattle.std.specs.declared.cmp.Ordering.{Ordering}
 use Rattle.std.specs.declared.cmp.Ordering.TheVariants.{Less, Equal, Greater}
 use Rattle.std.proofs.Common.{◌≡◌, ℕ, ◌+◌, suc, List, [], ◌∷◌, length, false, refl, subst, sym, arith, rules}
 use Rattle.std.proofs.lemmas.List.{length-append}
-use Rattle.serde.specs.Event.{Event}
-use Rattle.serde.specs.Steps.{Stays}
-use Rattle.serde.specs.declared.deserializer.Deserializer.{Deserializer}
-use Rattle.iddqd_ord.specs.Items.{put, like}
+use Rattle.serde.specs.Event.{Log, WritesEach}
+use Rattle.iddqd_ord.specs.Items.{with_item, has_key_of}
 use Rattle.iddqd_ord.specs.declared.item.IdOrdItem as item
 use Rattle.iddqd_serde_ord.specs.Reading.{HasRead}
 
-pub HasRead-more : {F E M : Type 0} (gives : F → List ℕ → Event → F → Type 0) (stays : F → F → Type 0) (n more : ℕ) (old before at new : Deserializer F E M)
-    → more ≡ n + 1 → HasRead gives stays n old before → Stays stays before at → HasRead gives stays more old new
-HasRead-more gives stays n more old before at new same read found =
+pub HasRead-more : {Reader : Type 0} (begins follows : Reader → Reader → Type 0) (n more : ℕ) (old before at new : Reader)
+    → more ≡ n + 1 → HasRead begins follows n old before → follows before at → HasRead begins follows more old new
+HasRead-more begins follows n more old before at new same read found =
     let next : more ≡ suc n = omega (arith, same) in
-    subst (λ k. HasRead gives stays k old new) (sym next) (before, at, read, found)
+    subst (λ k. HasRead begins follows k old new) (sym next) (before, at, read, found)
 
 -- an item is lower, equal or higher
 one : {T : Type 0} (o : T → Ordering) (y : T) (ys : List T) (v : Ordering) → o y ≡ v
@@ -39,11 +37,17 @@ halves : {T : Type 0} (o : T → Ordering) (xs : List T) → list_any (λ x. is_
 halves o [] none = refl
 halves o (y ∷ ys) none = one o y ys (o y) refl none (halves o ys)
 
-pub length-put : {T Key : Type 0} (of : item.Ghosts T Key) (cmp : Key → Key → Ordering) (xs : List T) (x : T)
-    → list_any (like of cmp x) xs ≡ false → length (put of cmp xs x) ≡ length xs + 1
-length-put of cmp xs x free =
+pub length-with_item : {T Key : Type 0} (of : item.Ghosts T Key) (cmp : Key → Key → Ordering) (xs : List T) (x : T)
+    → list_any (has_key_of of cmp x) xs ≡ false → length (with_item of cmp xs x) ≡ length xs + 1
+length-with_item of cmp xs x free =
     omega (
       arith,
       length-append (filter (λ y. is_lt (cmp (of.key y) (of.key x))) xs) (x ∷ filter (λ y. is_gt (cmp (of.key y) (of.key x))) xs),
       halves (λ y. cmp (of.key y) (of.key x)) xs free,
     )
+
+-- what is written of each item's image is written of the list of images
+pub WritesEach-map : {A B : Type 0} (w : B → Log → Log → Type 0) (f : A → B) (xs : List A) (old new : Log)
+    → WritesEach (λ x. w (f x)) xs old new → WritesEach w (map f xs) old new
+WritesEach-map w f [] old new h = h
+WritesEach-map w f (x ∷ xs) old new h = (h.0, h.1, WritesEach-map w f xs h.0 new h.2)

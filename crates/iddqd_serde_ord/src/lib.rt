@@ -1,7 +1,8 @@
 //! An `IdOrdMap` of `iddqd_ord` as a sequence of its items, in any format of `serde`.
 //!
 //! On a field of a derived type write `#[serde(with = "iddqd_serde_ord")]`. A map by itself goes into `Seq`, which
-//! implements `Serialize`, `Deserialize` and `DeserializeOwned`.
+//! implements `Serialize`, `Deserialize` and `DeserializeOwned`. The module `as_map` does the same for a map of serde, as an
+//! object of JSON, which has each item under its key.
 //!
 //! A map is written as the sequence of its items, each once, in ascending order of their keys. It is read from such a
 //! sequence, whatever the order of its items, item by item. An item that has a key of an item before it is an error of the
@@ -21,6 +22,8 @@ ghost use Rattle.iddqd_ord.specs.Items.{Gains, items};
 ghost use Rattle.iddqd_serde_ord.specs.Reading.{ReadsSeq};
 ghost use Rattle.serde.specs.Event.{WritesSeq, seq_ends};
 ghost use Rattle.serde.specs.Steps.{Gives, Stays};
+
+pub mod as_map;
 
 use iddqd_ord::{IdOrdItem, IdOrdMap, Rejected};
 use iddqd_store::Meter;

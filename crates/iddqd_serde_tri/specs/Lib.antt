@@ -1,2 +1,3 @@
 -- Made by tests/widths from crates/iddqd_serde_bi/specs/Lib.antt: change that file.
+pub mod Entries
 pub mod Reading

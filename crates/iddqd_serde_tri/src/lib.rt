@@ -1,7 +1,8 @@
 //! A `TriHashMap` of `iddqd_tri` as a sequence of its items, in any format of `serde`.
 //!
 //! On a field of a derived type write `#[serde(with = "iddqd_serde_tri")]`. A map by itself goes into `Seq`, which
-//! implements `Serialize`, `Deserialize` and `DeserializeOwned`.
+//! implements `Serialize`, `Deserialize` and `DeserializeOwned`. The module `as_map` does the same for a map of serde,
+//! as an object of JSON, which has each item under its first key.
 //!
 //! A map is written as the sequence of its items, each once, in the order of `iter`. It is read from such a sequence,
 //! item by item. An item that has a key of an item before it is an error of the format's own kind, which a format such
@@ -22,6 +23,8 @@ ghost use Rattle.iddqd_tri.specs.Map.{Gains, bag};
 ghost use Rattle.iddqd_serde_tri.specs.Reading.{ReadsSeq};
 ghost use Rattle.serde.specs.Event.{WritesSeq, seq_ends};
 ghost use Rattle.serde.specs.Steps.{Gives, Stays};
+
+pub mod as_map;
 
 use iddqd_tri::{DefaultHashBuilder, InsertReason, Meter, Ranked, TriHashItem, TriHashMap};
 use serde::{

@@ -19,7 +19,7 @@ loop-preserved g c =
     let more = length-inserted (bag c.loop.map) (bag c.put.new.map) c.in_ok-item.item gains.items in
     let found : Stays g.F.Format.stays c.loop.from c.next.new.from = search rules in
     let counted : c.next.new.items ≡ c.loop.items + 1 = search rules in (
-      HasRead-more g.F.Format.gives g.F.Format.stays _ _ c.args.from.now c.loop.from c.next.new.from _ more c.loop.invariant.0 found,
+      HasRead-more _ _ _ _ c.args.from.now c.loop.from c.next.new.from _ more c.loop.invariant.0 found,
       rw gains.same_builder c.loop.invariant.1,
       omega (arith, more, c.loop.invariant.2, counted),
     )

@@ -16,6 +16,6 @@ loop-preserved g c =
     let more = c.in_ok-put.ensures.more in
     let found : Stays g.F.Format.stays c.loop.from c.next.new.from = search rules in
     let counted : c.next.new.read ≡ c.loop.read + 1 = search rules in (
-      HasRead-more g.F.Format.gives g.F.Format.stays _ _ c.args.from.now c.loop.from c.next.new.from _ more c.loop.invariant.0 found,
+      HasRead-more _ _ _ _ c.args.from.now c.loop.from c.next.new.from _ more c.loop.invariant.0 found,
       omega (arith, more, c.loop.invariant.1, counted),
     )

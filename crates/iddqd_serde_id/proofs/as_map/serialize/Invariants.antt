@@ -1,0 +1,11 @@
+-- Made by tests/widths from crates/iddqd_serde_bi/proofs/as_map/serialize/Invariants.antt: change that file.
+use Rattle.iddqd_id.specs.Map.{bag}
+use Rattle.serde.specs.Event.{WritesEntry}
+use Rattle.serde.proofs.Events.{WritesUpTo}
+use Rattle.iddqd_serde_id.proofs.as_map.serialize.Given as goal
+
+-- the items so far are written behind their keys
+abbrev pub invariant-loop-item : goal.invariant-loop-item
+invariant-loop-item g l =
+    WritesUpTo (λ x. WritesEntry g.T.Key.Described.writes g.T.Described.writes (g.T.IdHashItem.key x, x)) (bag l.map)
+    l.item-iterator (g.Out.Serializer.written l.initial.out) (g.Out.Serializer.written l.out)
