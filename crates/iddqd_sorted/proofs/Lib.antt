@@ -1,0 +1,12 @@
+pub mod Costs
+pub mod Entries
+pub mod Finding
+pub mod Flags
+pub mod Listed
+pub mod Moving
+pub mod Ordering
+pub mod Parts
+pub mod Replacing
+pub mod Retaining
+pub mod Searching
+pub mod Sorting

@@ -1,0 +1,6 @@
+use Rattle.std.proofs.Common.{◌∙◌}
+use Rattle.std.proofs.lemmas.List.Sorted.{list_any-IsPermutation}
+use Rattle.iddqd_sorted.proofs.widths.two_keys.Sorted+BiHashMap+T+S.contains_key1.Goals as goal
+
+pub returns : goal.returns
+returns g c = c.contains_key1.ensures ∙ list_any-IsPermutation _ _ _ c.inside.ensures.items

@@ -1,0 +1,5 @@
+use Rattle.iddqd_sorted.proofs.Finding.{IsOnly-permutation}
+use Rattle.iddqd_sorted.proofs.widths.two_keys.Sorted+BiHashMap+T+S.get1.Goals as goal
+
+pub returns : goal.returns
+returns g c = IsOnly-permutation _ _ _ c.inside.ensures.items _ c.get1.ensures

@@ -1,0 +1,21 @@
+-- What the error of an insert says.
+use Rattle.std.specs.Prelude.{◌≡◌, Bool, not, List, filter}
+use Rattle.std.specs.declared.cmp.Ordering.{Ordering}
+use Rattle.iddqd_store.specs.Bag.{Ranks, agrees, tests_of}
+use Rattle.iddqd_store.specs.SlotMap.{AreAny, NoneTrue}
+use Rattle.iddqd_sorted.specs.Items.{SortedValue, items, with_item, IsFullFor}
+
+module _ {T K S : Type 0} where
+  -- The error says of each key of `x` whether an item of the map has it. If none is taken, the map is full.
+  -- Example: In a map of (2, 3) the first key of (2, 7) is taken.
+  pub record TellsWhy (ranks : Ranks T) (m : SortedValue T K S) (x : T) (flags : List Bool) : Type 0 where
+    pub taken : AreAny flags (tests_of ranks x) (items m)
+    pub full : NoneTrue flags → IsFullFor ranks m x
+
+  -- The map has `x` in the place of the item that has each of its keys, at the place of its sort key. The capacity and the builder
+  -- stay.
+  -- Example: A map of (2, 3), (1, 5) replaces by (2, 7), and has (1, 5), (2, 7) then.
+  pub record Replaces (ranks : Ranks T) (by : T → T → Ordering) (old : SortedValue T K S) (x : T) (new : SortedValue T K S) : Type 0 where
+    pub lists : items new ≡ with_item by (filter (λ y. not (agrees ranks x y)) (items old)) x
+    pub same_room : new.capacity ≡ old.capacity
+    pub same_builder : new.builder ≡ old.builder

@@ -1,0 +1,110 @@
+-- What a contract sees of a hash map with an order. In the examples an item is a pair of its first key and its sort key.
+use Rattle.std.specs.Prelude.{◌≡◌, ℕ, ◌+◌, ◌<◌, ◌≤◌, Bool, true, ◌&&◌, List, [], ◌∷◌, ◌++◌, Option, filter, length, refl, Result, IsErr, OnOk, OnErr}
+use Rattle.std.specs.Coded.{Coded, code_by, coded×, coded_ℕ, coded_list, coded_option}
+use Rattle.std.specs.Ordering.{then_cmp, on, is_lt, is_le, is_gt, is_ge}
+use Rattle.std.specs.declared.cmp.Ordering.{Ordering}
+use Rattle.std.specs.declared.ops.Bound.{Bound}
+use Rattle.std.specs.declared.ops.Bound.TheVariants.{Included, Excluded, Unbounded}
+use Rattle.iddqd_store.specs.Bag.{Ranks, conflicts_of}
+use Rattle.iddqd_store.specs.Slots.{contents}
+use Rattle.iddqd_store.specs.Table.Limit.{most_room}
+use Rattle.iddqd_order.specs.Row.{line}
+use Rattle.iddqd_sorted.specs.Entries.{items_in}
+use Rattle.iddqd_sorted.specs.declared.entry.Entry.{Entry}
+
+-- Contracts see a map as its items by their slots, the blocks of the entries that list the slots in order, how many items fit,
+-- and the builder of hashers. Public clauses cite the slots and the blocks only as `items`.
+-- Example: The slots `Some (1, 5)`, `None`, `Some (2, 3)`, the one block of (3, 2), (5, 0), and the capacity 4.
+pub record SortedValue (T K S : Type 0) : Type 0 where
+  pub slots : List (Option T)
+  pub blocks : List (List (Entry K))
+  pub capacity : ℕ
+  pub builder : S
+
+abbrev pub entry_code : {K : Type 0} → Coded K → Coded (Entry K)
+entry_code {K} k =
+    code_by (K × ℕ) (coded× k coded_ℕ) (λ e. (e.sort_key, e.slot)) (λ p. record { sort_key = p.0; slot = p.1 }) (λ _. refl)
+
+abbrev pub sorted_code : {T K S : Type 0} → Coded T → Coded K → Coded S → Coded (SortedValue T K S)
+sorted_code {T} {K} {S} t k s =
+    code_by (List (Option T) × (List (List (Entry K)) × (ℕ × S)))
+    (coded× (coded_list (coded_option t)) (coded× (coded_list (coded_list (entry_code k))) (coded× coded_ℕ s)))
+    (λ m. (m.slots, (m.blocks, (m.capacity, m.builder))))
+    (λ p. record { slots = p.0; blocks = p.1.0; capacity = p.1.1.0; builder = p.1.1.1 }) (λ _. refl)
+
+-- `items` lists the items of the map in ascending order of their sort keys, and those of one sort key in ascending order of
+-- their first keys.
+-- Example: For the slots `Some (1, 5)`, `None`, `Some (2, 3)` and the block of (3, 2), (5, 0) it is (2, 3), (1, 5).
+abbrev pub items : {T K S : Type 0} → SortedValue T K S → List T
+items m = items_in m.slots (line m.blocks)
+
+-- `bag` lists the items of the map in no order. No public clause cites it.
+-- Example: For the same slots it is (1, 5), (2, 3).
+abbrev pub bag : {T K S : Type 0} → SortedValue T K S → List T
+bag m = contents m.slots
+
+-- `by_sort` compares items by their sort keys, and those of one sort key by their first keys.
+-- Example: (2, 3) is lower than (1, 5), and (1, 3) is lower than (2, 3).
+abbrev pub by_sort : {T K Key : Type 0} → (T → K) → (K → K → Ordering) → (T → Key) → (Key → Key → Ordering) → T → T → Ordering
+by_sort sort cmp key cmp_key = then_cmp (on sort cmp) (on key cmp_key)
+
+module _ {T : Type 0} where
+  -- `with_item` lists the items that are lower than `x`, then `x`, and then those that are higher.
+  -- Example: For (2, 3), (1, 5) and (4, 3) it is (2, 3), (4, 3), (1, 5).
+  abbrev pub with_item : (T → T → Ordering) → List T → T → List T
+  with_item by xs x = filter (λ y. is_lt (by y x)) xs ++ x ∷ filter (λ y. is_gt (by y x)) xs
+
+  module _ {K S : Type 0} where
+    -- The map has the item besides those that it had, and they fit. The capacity grows only if the map was full, and the builder
+    -- stays.
+    -- Example: A map of (2, 3) with the capacity 4 gains (1, 5), and has (2, 3), (1, 5) and the capacity 4 then.
+    pub record Gains (by : T → T → Ordering) (old : SortedValue T K S) (x : T) (new : SortedValue T K S) : Type 0 where
+      pub lists : items new ≡ with_item by (items old) x
+      pub no_less_room : old.capacity ≤ new.capacity
+      pub same_room : length (items old) < old.capacity → new.capacity ≡ old.capacity
+      pub fits : length (items new) ≤ new.capacity
+      pub same_builder : new.builder ≡ old.builder
+
+    -- No item has a key of `x`, and the map is full.
+    -- Example: A map of (2, 3), (1, 5) with the capacity 2 is full for (4, 3), and not for (2, 4).
+    pub record IsFullFor (ranks : Ranks T) (m : SortedValue T K S) (x : T) : Type 0 where
+      pub free : conflicts_of ranks (items m) x ≡ []
+      pub full : length (items m) ≡ m.capacity
+
+module _ {T K : Type 0} (sort : T → K) (cmp : K → K → Ordering) where
+  -- `is_from` tells whether the sort key of an item is not before a bound.
+  -- Example: From `Included 5` on there are the sort keys 5, 6 .., and from `Excluded 5` on 6, 7 ...
+  abbrev pub is_from : Bound K → T → Bool
+  is_from (Included k) x = is_ge (cmp (sort x) k)
+  is_from (Excluded k) x = is_gt (cmp (sort x) k)
+  is_from Unbounded x = true
+
+  -- `is_to` tells whether the sort key of an item is not behind a bound.
+  -- Example: Up to `Included 5` there are the sort keys .. 4, 5, and up to `Excluded 5` .. 3, 4.
+  abbrev pub is_to : Bound K → T → Bool
+  is_to (Included k) x = is_le (cmp (sort x) k)
+  is_to (Excluded k) x = is_lt (cmp (sort x) k)
+  is_to Unbounded x = true
+
+  -- `within` tells whether the sort key of an item is between two bounds.
+  -- Example: Between `Included 3` and `Excluded 5` are 3 and 4.
+  abbrev pub within : Bound K → Bound K → T → Bool
+  within low high x = is_from low x && is_to high x
+
+-- After `Ok`, `more` items fit beside those that are there. The call fails only if they did not fit before it, and it always
+-- fails if no map can hold them. The capacity grows only if they did not fit, and the builder stays.
+-- Example: With 3 items and the capacity 7, 4 more fit and nothing changes, and for 5 more the capacity has to be 8 at least.
+pub record MakesRoom {T K S A E : Type 0} (old : SortedValue T K S) (more : ℕ) (result : Result A E) (new : SortedValue T K S) : Type 0 where
+  pub room : OnOk result (length (items old) + more ≤ new.capacity)
+  pub reason : OnErr result (old.capacity < length (items old) + more)
+  pub past : most_room < length (items old) + more → IsErr result
+  pub no_less_room : old.capacity ≤ new.capacity
+  pub same_room : length (items old) + more ≤ old.capacity → new.capacity ≡ old.capacity
+  pub same_builder : new.builder ≡ old.builder
+
+-- For each test that tells what the closure returns at an item, where no call changes the closure `f`, `kept` lists the items that
+-- pass.
+-- Example: For a closure that tells whether the first key is odd, and (2, 3), (1, 5), it is (1, 5).
+abbrev pub Filters : {F T : Type 0} → (F → T → Bool → F → Type 0) → F → List T → List T → Type 0
+Filters {F} {T} step f xs kept =
+    (test : T → Bool) → ((x : T) (b : Bool) (g : F) → step f x b g → (g ≡ f) × (b ≡ test x)) → kept ≡ filter test xs

@@ -1,0 +1,4 @@
+pub mod Entries
+pub mod Inserts
+pub mod Items
+pub mod Ordered

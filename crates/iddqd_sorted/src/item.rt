@@ -1,0 +1,32 @@
+//! The trait of items with a sort key.
+ghost use Rattle.std.specs.Prelude.{◌≡◌};
+
+/// An item with a key by which a `Sorted` map orders it, beside the keys by which the map inside finds it. Several items may have
+/// the same sort key, and it may change (`replace`). It depends on the item's value alone.
+///
+/// The order keeps a copy of each sort key, so the type is one that is `Copy`, as a number, a pair of numbers, or a time. Items
+/// with equal sort keys are ordered by their first keys. For the order in which they came, take a pair of which the second part
+/// is a number that counts up.
+///
+/// ```text
+/// impl Sortable for Session {
+///     type SortKey = u64;
+///
+///     ghost sort_key = { λ s. s.seen };
+///
+///     fn sort_key(&self) -> u64 {
+///         self.seen
+///     }
+/// }
+/// ```
+pub trait Sortable {
+    /// The type of the sort key.
+    type SortKey: Ord + Copy;
+
+    // The sort key of an item, as contracts see it.
+    ghost sort_key: { Self → Self.SortKey };
+
+    /// Returns the sort key.
+    fn sort_key(&self) -> Self::SortKey
+        ensures { result ≡ sort_key self.now };
+}

@@ -1,0 +1,109 @@
+//! How many items there are and how many fit, and growing.
+ghost use Rattle.std.specs.Prelude.{[], ◌≡◌, ◌<◌, ◌≤◌, ◌^◌, ◌==◌, length, OnOk, OnErr};
+ghost use Rattle.iddqd_store.specs.Bag.{IsSound};
+ghost use Rattle.iddqd_sorted.specs.Items.{items, by_sort, MakesRoom};
+ghost use Rattle.iddqd_sorted.specs.Ordered.{IsAscending};
+
+use super::Sorted;
+use crate::item::Sortable;
+use iddqd_store::{AHEAD, SlotMap, TryReserveError};
+
+impl<M: SlotMap> Sorted<M>
+where
+    M::Item: Sortable,
+    M::FirstKey: Ord,
+{
+    /// Returns the number of items.
+    pub fn len(&self) -> usize
+        ensures value { result ≡ length (items self.now) }
+        ensures ascending { IsAscending (by_sort M.Item.sort_key M.Item.SortKey.cmp M.first_key M.FirstKey.cmp) (items self.now) }
+        ensures sound { IsSound M.ranks (items self.now) }
+    {
+        self.map.len()
+    }
+
+    /// Returns whether there are no items.
+    pub fn is_empty(&self) -> bool
+        ensures { result ≡ (length (items self.now) == 0) }
+    {
+        self.len() == 0
+    }
+
+    /// Returns how many items fit without growing: the least of what the map inside and the order hold.
+    pub fn capacity(&self) -> usize
+        ensures value { result ≡ self.now.capacity }
+        ensures fits { length (items self.now) ≤ result }
+    {
+        self.map.capacity().min(self.order.capacity())
+    }
+
+    /// Reserves capacity for this many more items. If they fit already, the call allocates no memory. It compares no key.
+    ///
+    /// The call fails if an allocation fails, or if the number of items would be too large for memory. Then the map is as before,
+    /// but the map inside or the order may have more room, which serves a later call.
+    pub fn reserve(&mut self, more: usize) -> Result<(), TryReserveError>
+        ensures items { items self.new ≡ items self.old }
+        ensures room { MakesRoom self.old more result self.new }
+        ensures unchanged { OnErr result (self.new ≡ self.old) }
+    {
+        self.grow(more, 0)
+    }
+
+    /// Reserves capacity as `reserve` does. Both calls are the same, as on the other maps.
+    pub fn try_reserve(&mut self, more: usize) -> Result<(), TryReserveError>
+        ensures items { items self.new ≡ items self.old }
+        ensures room { MakesRoom self.old more result self.new }
+        ensures unchanged { OnErr result (self.new ≡ self.old) }
+    {
+        self.reserve(more)
+    }
+
+    /// Drops all items. The builder and the capacity stay. The call allocates no memory, and compares no key.
+    pub fn clear(&mut self)
+    where
+        M::Item: Drop,
+        ensures empty { items self.new ≡ [] }
+        ensures capacity { self.new.capacity ≡ self.old.capacity }
+        ensures builder { self.new.builder ≡ self.old.builder }
+    {
+        self.map.clear();
+        self.order.clear();
+    }
+
+    /// Reserves capacity for this many more items, with tables for at most `ahead` items more. What bounds the capacity grows
+    /// last: so if a step fails, that part is as before, and the capacity with it.
+    #[cold]
+    #[inline(never)]
+    pub(super) fn grow(&mut self, more: usize, ahead: usize) -> Result<(), TryReserveError>
+        ensures slots { self.new.slots ≡ self.old.slots }
+        ensures blocks { self.new.blocks ≡ self.old.blocks }
+        ensures room { MakesRoom self.old more result self.new }
+        ensures unchanged { OnErr result (self.new ≡ self.old) }
+    {
+        if self.map.capacity() <= self.order.capacity() {
+            self.order.try_reserve(more)?;
+            return self.map.grow(more, ahead);
+        }
+        self.map.grow(more, ahead)?;
+        self.order.try_reserve(more)?;
+        Ok(())
+    }
+
+    /// Reserves capacity for one more item if the map is full. If that fails, the map is as before.
+    #[inline(always)]
+    pub(super) fn make_room(&mut self) -> Result<(), TryReserveError>
+        ensures slots { self.new.slots ≡ self.old.slots }
+        ensures blocks { self.new.blocks ≡ self.old.blocks }
+        ensures builder { self.new.builder ≡ self.old.builder }
+        ensures no_less_room { self.old.capacity ≤ self.new.capacity }
+        ensures same_room { length (items self.old) < self.old.capacity → self.new ≡ self.old }
+        ensures room { OnOk result (length (items self.old) < self.new.capacity) }
+        ensures reason { OnErr result (length (items self.old) ≡ self.old.capacity) }
+        ensures unchanged { OnErr result (self.new ≡ self.old) }
+    {
+        if self.len() == self.capacity() {
+            self.grow(1, AHEAD)?;
+        }
+        Ok(())
+    }
+}

@@ -1,0 +1,75 @@
+//! Iterating over the items in their order.
+ghost use Rattle.std.specs.Prelude.{◌≡◌, ◌<◌, ◌^◌, ◌&&◌, filter, length};
+ghost use Rattle.std.specs.Map.Iter.{ShowsInOrder, deref};
+ghost use Rattle.std.specs.Ordering.{is_eq, is_lt, is_ge};
+ghost use Rattle.iddqd_sorted.specs.Items.{items, by_sort};
+ghost use Rattle.iddqd_sorted.specs.Ordered.{IsAscending};
+
+use super::Sorted;
+use crate::item::Sortable;
+use crate::iter::Iter;
+use iddqd_store::{Meter, SlotMap};
+use std::fmt::{self, Debug, Formatter, Write};
+
+impl<M: SlotMap> Sorted<M>
+where
+    M::Item: Sortable,
+    M::FirstKey: Ord,
+{
+    /// Iterates over the items by reference, in their order, from both ends. The call compares no key, and allocates no memory.
+    /// `len` of the iterator takes one step.
+    pub fn iter(&self) -> Iter<'_, M::Item>
+        ensures gives { result ≡ items self.now }
+        ensures ascending { IsAscending (by_sort M.Item.sort_key M.Item.SortKey.cmp M.first_key M.FirstKey.cmp) (items self.now) }
+        ensures runs { ShowsInOrder (deref {X = M.Item}) }
+        ensures countable { length (items self.now) < 2 ^ 64 }
+    {
+        let _ = self.len();
+        Iter::over(self.map.slots(), self.order.iter())
+    }
+
+    /// Iterates over the items that have this sort key, in the order of their first keys.
+    ///
+    /// Among fewer than `4 ^ r` items the call compares at most `6 * r + 38` sort keys. It allocates no memory.
+    pub fn group(&self, sort_key: &<M::Item as Sortable>::SortKey) -> Iter<'_, M::Item>
+        ensures gives { result ≡ filter (λ x. is_eq (M.Item.SortKey.cmp (M.Item.sort_key x) sort_key.now)) (items self.now) }
+        ensures runs { ShowsInOrder (deref {X = M.Item}) }
+        ensures countable { length (items self.now) < 2 ^ 64 }
+    {
+        let _ = self.len();
+        let from = self.place_before(sort_key, &mut Meter::new());
+        let to = self.place_behind(sort_key, &mut Meter::new());
+        Iter::over(self.map.slots(), self.order.range(from, to))
+    }
+
+    /// Iterates over the items from a sort key on and before another one, in their order. There are none if the second is not the
+    /// higher one.
+    ///
+    /// Among fewer than `4 ^ r` items the call compares at most `6 * r + 38` sort keys. It allocates no memory.
+    pub fn between(
+        &self,
+        from: &<M::Item as Sortable>::SortKey,
+        before: &<M::Item as Sortable>::SortKey,
+    ) -> Iter<'_, M::Item>
+        ensures gives { result ≡ filter (λ x. is_ge (M.Item.SortKey.cmp (M.Item.sort_key x) from.now)
+            && is_lt (M.Item.SortKey.cmp (M.Item.sort_key x) before.now)) (items self.now) }
+        ensures runs { ShowsInOrder (deref {X = M.Item}) }
+        ensures countable { length (items self.now) < 2 ^ 64 }
+    {
+        let _ = self.len();
+        let from = self.place_before(from, &mut Meter::new());
+        let to = self.place_before(before, &mut Meter::new());
+        Iter::over(self.map.slots(), self.order.range(from, to))
+    }
+}
+
+impl<M: SlotMap> Debug for Sorted<M>
+where
+    M::Item: Sortable + Debug,
+    M::FirstKey: Ord,
+{
+    /// Writes the items as a set, in their order.
+    fn fmt<W: Write>(&self, f: &mut Formatter<W>) -> fmt::Result {
+        f.debug_set().entries(self.iter()).finish()
+    }
+}

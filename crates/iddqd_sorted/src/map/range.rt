@@ -1,0 +1,65 @@
+//! Iterating over the items between two bounds of sort keys.
+ghost use Rattle.std.specs.Prelude.{◌≡◌, ℕ, ◌+◌, ◌*◌, ◌^◌, ◌<◌, ◌≤◌, not, filter, length};
+ghost use Rattle.std.specs.Map.Iter.{ShowsInOrder, deref};
+ghost use Rattle.std.specs.Range.Bound.{bound_map};
+ghost use Rattle.iddqd_order.specs.Row.{position, IsPlace};
+ghost use Rattle.iddqd_sorted.specs.Items.{items, is_from, is_to, within};
+ghost use Rattle.iddqd_sorted.specs.Ordered.{IsCut};
+
+use super::Sorted;
+use crate::item::Sortable;
+use crate::iter::Iter;
+use iddqd_order::Place;
+use iddqd_store::{Meter, SlotMap};
+use std::ops::{Bound, RangeBounds};
+
+impl<M: SlotMap> Sorted<M>
+where
+    M::Item: Sortable,
+    M::FirstKey: Ord,
+{
+    /// Iterates over the items whose sort keys are between two bounds, in their order, from both ends: `map.range(3..7)`,
+    /// `map.range(..=now)`. A range that ends before it begins has no items.
+    ///
+    /// Among fewer than `4 ^ r` items each bound compares at most `3 * r + 19` sort keys. The call allocates no memory.
+    pub fn range<R: RangeBounds<<M::Item as Sortable>::SortKey>>(
+        &self,
+        range: R,
+    ) -> Iter<'_, M::Item>
+        ensures gives { R.has_bounds range → result
+            ≡ filter (within M.Item.sort_key M.Item.SortKey.cmp (R.start_bound range) (R.end_bound range)) (items self.now) }
+        ensures runs { ShowsInOrder (deref {X = M.Item}) }
+    {
+        let from = self.first_from(range.start_bound(), &mut Meter::new());
+        let to = self.first_past(range.end_bound(), &mut Meter::new());
+        Iter::over(self.map.slots(), self.order.range(from, to))
+    }
+
+    /// Returns the place of the first item that is not before a lower bound, or the end if there is none.
+    fn first_from(&self, low: Bound<&<M::Item as Sortable>::SortKey>, meter: &mut Meter) -> Place
+        ensures place { IsPlace self.now.blocks result }
+        ensures cut { IsCut (is_from M.Item.sort_key M.Item.SortKey.cmp (bound_map (λ k. k.now) low.entry)) (items self.now)
+            (position self.now.blocks result) }
+        ensures asked { (r : ℕ) → length (items self.now) < 4 ^ r → meter.new ≤ meter.old + (3 * r + 19) }
+    {
+        match low {
+            Bound::Included(sort_key) => self.place_before(sort_key, meter),
+            Bound::Excluded(sort_key) => self.place_behind(sort_key, meter),
+            Bound::Unbounded => self.order.start(),
+        }
+    }
+
+    /// Returns the place of the first item that is behind an upper bound, or the end if there is none.
+    fn first_past(&self, high: Bound<&<M::Item as Sortable>::SortKey>, meter: &mut Meter) -> Place
+        ensures place { IsPlace self.now.blocks result }
+        ensures cut { IsCut (λ x. not (is_to M.Item.sort_key M.Item.SortKey.cmp (bound_map (λ k. k.now) high.entry) x)) (items self.now)
+            (position self.now.blocks result) }
+        ensures asked { (r : ℕ) → length (items self.now) < 4 ^ r → meter.new ≤ meter.old + (3 * r + 19) }
+    {
+        match high {
+            Bound::Included(sort_key) => self.place_behind(sort_key, meter),
+            Bound::Excluded(sort_key) => self.place_before(sort_key, meter),
+            Bound::Unbounded => self.order.end(),
+        }
+    }
+}
