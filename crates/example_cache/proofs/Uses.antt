@@ -10,7 +10,7 @@ use Rattle.std.proofs.lemmas.Grind.{common_steps}
 use Rattle.std.proofs.lemmas.List.Elements.{All-cons, All-head, All-nil, All-tail}
 use Rattle.std.proofs.lemmas.List.Sorted.{All-permutation, IsPermutation-cons, IsPermutation-filter_both, IsPermutation-middle, IsPermutation-sym, IsPermutation-trans}
 use Rattle.std.proofs.lemmas.List.Sorted.{length_permutation, list_any-IsPermutation}
-use Rattle.iddqd_store.specs.Bag.{IsSound, Ranks, clash, like, over, without}
+use Rattle.iddqd_store.specs.Bag.{IsSound, Ranks, conflicts_of, tests_of, with_item, remainder}
 use Rattle.iddqd_store.specs.Rank.{agree}
 use Rattle.iddqd_store.proofs.BagLemmas.Sound.{named_is}
 use Rattle.iddqd_store.proofs.BagLemmas.Unique.{any_listed, some_item}
@@ -75,9 +75,9 @@ module _ {T : Type 0} (test : T → Bool) where
   list_all-filter p (x ∷ xs) all = grind (arith, common_steps, list_all-filter p xs)
 
 -- a page with a use that no page had replaces those with its number or its frame
-pub over-others : (xs : List Page) (x : Page) → Before x.used xs ≡ true → without (like item_ranks x) xs ≡ others xs x
-over-others [] x all = refl
-over-others (y ∷ ys) x all = grind (arith, nat_tests, common_steps, over-others ys x)
+pub with_item-others : (xs : List Page) (x : Page) → Before x.used xs ≡ true → remainder (tests_of item_ranks x) xs ≡ others xs x
+with_item-others [] x all = refl
+with_item-others (y ∷ ys) x all = grind (arith, nat_tests, common_steps, with_item-others ys x)
 
 -- no more pages are left beside those that are replaced
 length-others : (xs : List Page) (x : Page) → length (others xs x) ≤ length xs
@@ -95,7 +95,7 @@ all-others [] x free = refl
 all-others (y ∷ ys) x free = grind (arith, nat_tests, common_steps, all-others ys x)
 
 -- no page has the number or the frame if none conflicts
-pub free-taken : (xs : List Page) (x : Page) → clash item_ranks xs x ≡ [] → is_taken xs x ≡ false
+pub free-taken : (xs : List Page) (x : Page) → conflicts_of item_ranks xs x ≡ [] → is_taken xs x ≡ false
 free-taken [] x free = refl
 free-taken (y ∷ ys) x free = grind (arith, nat_tests, common_steps, free-taken ys x)
 
@@ -160,7 +160,7 @@ within mid new x limit most place came =
     (λ free. omega (arith, length_permutation new (x ∷ others mid x) came, length-others mid x, place free))
 
 -- no memory was asked for then
-pub same_room : (mid : List Page) (x : Page) (old new : ℕ) → (is_taken mid x ≡ false → length mid < old) → (length mid < old → new ≡ old) → (clash item_ranks mid x ≢ [] → new ≡ old) → new ≡ old
+pub same_room : (mid : List Page) (x : Page) (old new : ℕ) → (is_taken mid x ≡ false → length mid < old) → (length mid < old → new ≡ old) → (conflicts_of item_ranks mid x ≢ [] → new ≡ old) → new ≡ old
 same_room mid x old new place below above =
     by_case (is_taken mid x)
     (λ taken. above (λ free. absurd (cc (taken, free-taken mid x free))))
@@ -186,8 +186,8 @@ left_pass test g old new gone all =
     grind (arith, common_steps, whole)
 
 -- what an overwrite by a page with a new use says, in the words of the cache
-pub came_in : (mid new : List Page) (x : Page) → Before x.used mid ≡ true → IsPermutation new (over item_ranks mid x) → IsPermutation new (x ∷ others mid x)
-came_in mid new x all came = subst (λ l. IsPermutation new (x ∷ l)) (over-others mid x all) came
+pub came_in : (mid new : List Page) (x : Page) → Before x.used mid ≡ true → IsPermutation new (with_item item_ranks mid x) → IsPermutation new (x ∷ others mid x)
+came_in mid new x all came = subst (λ l. IsPermutation new (x ∷ l)) (with_item-others mid x all) came
 
 -- nothing left an empty cache, so the one page that came is all
 pub alone_there : (gone : Option Page) (old new : List Page) (x : Page) (limit : ℕ) → 0 < limit → old ≡ [] → IfSome gone (λ g. length old ≡ limit)

@@ -1,6 +1,6 @@
 //! An insert whose error owns the item and says which keys are taken. It is returned by `?`, or mapped.
 ghost use Rattle.std.specs.Prelude.{◌≡◌, ◌<◌, ◌∷◌, [], true, false, length, IsOk, IsPermutation, OnOk, OnErr, IfErr, IfOk};
-ghost use Rattle.iddqd_bi.specs.Bag.{clash};
+ghost use Rattle.iddqd_bi.specs.Bag.{conflicts_of};
 ghost use Rattle.iddqd_bi.specs.Map.{bag};
 
 use iddqd_bi::{BiHashItem, BiHashMap, Ranked, Rejected};
@@ -62,7 +62,7 @@ impl From<Rejected<Badge>> for NotHandedOut {
 /// Hands a badge out, and returns how many are out then.
 pub fn hand_out(badges: &mut BiHashMap<Badge>, badge: Badge) -> Result<usize, NotHandedOut>
     ensures went_in { OnOk result (IsPermutation (bag badges.new) (badge ∷ bag badges.old)) }
-    ensures granted { clash ⟦<Badge as Ranked>⟧.ranks (bag badges.old) badge ≡ []
+    ensures granted { conflicts_of ⟦<Badge as Ranked>⟧.ranks (bag badges.old) badge ≡ []
         → length (bag badges.old) < badges.old.capacity → IsOk result }
     ensures unchanged { OnErr result (badges.new ≡ badges.old) }
     ensures count { IfOk result (λ n. n ≡ length (bag badges.new)) }
@@ -74,7 +74,7 @@ pub fn hand_out(badges: &mut BiHashMap<Badge>, badge: Badge) -> Result<usize, No
 /// Hands a badge out, or returns it.
 pub fn hand_out_or_back(badges: &mut BiHashMap<Badge>, badge: Badge) -> Result<(), Badge>
     ensures went_in { OnOk result (IsPermutation (bag badges.new) (badge ∷ bag badges.old)) }
-    ensures granted { clash ⟦<Badge as Ranked>⟧.ranks (bag badges.old) badge ≡ []
+    ensures granted { conflicts_of ⟦<Badge as Ranked>⟧.ranks (bag badges.old) badge ≡ []
         → length (bag badges.old) < badges.old.capacity → IsOk result }
     ensures handed_back { IfErr result (λ b. b ≡ badge) }
     ensures unchanged { OnErr result (badges.new ≡ badges.old) }

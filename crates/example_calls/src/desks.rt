@@ -1,6 +1,6 @@
 //! Replacing an item by one with other keys.
 ghost use Rattle.std.specs.Prelude.{◌≡◌, ◌∷◌, ◌==◌, Some, IsPermutation, IfOk, IfErr, OnErr};
-ghost use Rattle.iddqd_bi.specs.Rekeyed.{TellsWhyNot, left_out};
+ghost use Rattle.iddqd_bi.specs.Rekeyed.{TellsWhyNot, refused_item};
 ghost use Rattle.iddqd_bi.specs.Bag.{IsOnly};
 ghost use Rattle.iddqd_bi.specs.Map.{bag};
 
@@ -41,7 +41,7 @@ pub fn move_to(
     ensures moved { IfOk result (λ d. IsPermutation (d ∷ bag desks.new)
         (record { number = number; person = person } ∷ bag desks.old)) }
     ensures unchanged { OnErr result (desks.new ≡ desks.old) }
-    ensures handed_back { IfErr result (λ e. left_out e ≡ record { number = number; person = person }) }
+    ensures handed_back { IfErr result (λ e. refused_item e ≡ record { number = number; person = person }) }
     ensures reason { IfErr result (λ e. TellsWhyNot ⟦<Desk as Ranked>⟧.ranks (λ d. person == d.person)
         (bag desks.old) (record { number = number; person = person }) e) }
 {

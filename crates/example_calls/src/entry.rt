@@ -1,6 +1,6 @@
 //! Looking up two keys at once, and inserting or removing by what they find.
 ghost use Rattle.std.specs.Prelude.{◌≡◌, ◌≢◌, ◌<◌, ◌⊎◌, [], ◌∷◌, ◌++◌, length, IsOk, IsErrOf, IsPermutation, OnOk, OnErr};
-ghost use Rattle.iddqd_bi.specs.Bag.{clash, listing};
+ghost use Rattle.iddqd_bi.specs.Bag.{conflicts_of, listing};
 ghost use Rattle.iddqd_bi.specs.Map.{IsFullFor, bag};
 
 use iddqd_bi::{BiHashItem, BiHashMap, Entry, Ranked, UpToTwo};
@@ -42,13 +42,13 @@ pub enum NotNoted {
 /// Notes a visit if no other has its number or its page. Otherwise, and if there is no memory, the error has the visit.
 pub fn note_visit(visits: &mut BiHashMap<Visit>, visit: Visit) -> Result<(), NotNoted>
     ensures noted { OnOk result (IsPermutation (bag visits.new) (visit ∷ bag visits.old)) }
-    ensures granted { clash ⟦<Visit as Ranked>⟧.ranks (bag visits.old) visit ≡ []
+    ensures granted { conflicts_of ⟦<Visit as Ranked>⟧.ranks (bag visits.old) visit ≡ []
         → length (bag visits.old) < visits.old.capacity → IsOk result }
     ensures unchanged { OnErr result (visits.new ≡ visits.old) }
     ensures handed_back { OnErr result (IsErrOf result (NotNoted.Occupied visit)
         ⊎ IsErrOf result (NotNoted.Memory visit)) }
     ensures occupied { IsErrOf result (NotNoted.Occupied visit)
-        → clash ⟦<Visit as Ranked>⟧.ranks (bag visits.old) visit ≢ [] }
+        → conflicts_of ⟦<Visit as Ranked>⟧.ranks (bag visits.old) visit ≢ [] }
     ensures full { IsErrOf result (NotNoted.Memory visit)
         → IsFullFor ⟦<Visit as Ranked>⟧.ranks visits.old visit }
 {

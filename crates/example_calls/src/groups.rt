@@ -2,7 +2,7 @@
 ghost use Rattle.std.specs.Prelude.{◌≡◌, ◌≢◌, ◌<◌, [], ◌∷◌, ◌++◌, if◌then◌else◌, true, false, length, vec_capacity, List, IsOk, IfErr, IfOk, IsPermutation, OnOk, OnErr};
 ghost use Rattle.std.proofs.Common.{rules};
 ghost use Rattle.std.specs.Bool.{OnTrue, OnFalse};
-ghost use Rattle.iddqd_bi.specs.Bag.{clash, entry, non_unique, swap, unique, vacant};
+ghost use Rattle.iddqd_bi.specs.Bag.{conflicts_of, entry, non_unique, swap, unique, vacant};
 ghost use Rattle.iddqd_bi.specs.Map.{IsFullFor, bag};
 
 use iddqd_bi::{BiHashItem, BiHashItemMut, BiHashMap, Entry, Ranked, TryEntryError};
@@ -66,9 +66,9 @@ impl BiHashItemMut for Team {
 /// Opens a team if no other has its number or its laboratory, and otherwise leaves the teams as they are. If there is no
 /// memory for it, the error has the team.
 pub fn open(teams: &mut BiHashMap<Team>, team: Team) -> Result<(), Team>
-    ensures opened { clash ⟦<Team as Ranked>⟧.ranks (bag teams.old) team ≡ []
+    ensures opened { conflicts_of ⟦<Team as Ranked>⟧.ranks (bag teams.old) team ≡ []
         → OnOk result (IsPermutation (bag teams.new) (team ∷ bag teams.old)) }
-    ensures kept { clash ⟦<Team as Ranked>⟧.ranks (bag teams.old) team ≢ [] → IsOk result × (teams.new ≡ teams.old) }
+    ensures kept { conflicts_of ⟦<Team as Ranked>⟧.ranks (bag teams.old) team ≢ [] → IsOk result × (teams.new ≡ teams.old) }
     ensures unchanged { OnErr result (teams.new ≡ teams.old) }
     ensures handed_back { IfErr result (λ t. t ≡ team) }
     ensures full { OnErr result (IsFullFor ⟦<Team as Ranked>⟧.ranks teams.old team) }

@@ -1,7 +1,7 @@
 //! A key of a type of std, an IP address, and one that is an enum.
 ghost use Rattle.std.specs.Prelude.{◌≡◌, ◌<◌, ◌∷◌, [], Some, None, length, IsOk, IsPermutation, OnOk, OnErr, IfErr, option_copied};
 ghost use Rattle.std.proofs.Common.{rules};
-ghost use Rattle.iddqd_bi.specs.Bag.{IsOnly, clash, swap};
+ghost use Rattle.iddqd_bi.specs.Bag.{IsOnly, conflicts_of, swap};
 ghost use Rattle.iddqd_bi.specs.Map.{bag};
 
 use iddqd_bi::{BiHashItem, BiHashItemMut, BiHashMap, Ranked};
@@ -62,7 +62,7 @@ impl BiHashItemMut for Host {
 /// Adds a host, or returns it if another host has its address or its duty, or if there is no memory.
 pub fn add(hosts: &mut BiHashMap<Host>, host: Host) -> Result<(), Host>
     ensures went_in { OnOk result (IsPermutation (bag hosts.new) (host ∷ bag hosts.old)) }
-    ensures granted { clash ⟦<Host as Ranked>⟧.ranks (bag hosts.old) host ≡ []
+    ensures granted { conflicts_of ⟦<Host as Ranked>⟧.ranks (bag hosts.old) host ≡ []
         → length (bag hosts.old) < hosts.old.capacity → IsOk result }
     ensures handed_back { IfErr result (λ h. h ≡ host) }
     ensures unchanged { OnErr result (hosts.new ≡ hosts.old) }

@@ -1,6 +1,6 @@
 //! A registry as a type of its own, which contracts see as the list of its devices, beside how many fit.
 ghost use Rattle.std.specs.Prelude.{◌≡◌, ◌<◌, ◌∷◌, ◌==◌, [], length, IsOk, IsPermutation, OnOk, OnErr, IfErr, IfSome, IfNone, option_copied};
-ghost use Rattle.iddqd_bi.specs.Bag.{IsOnly, clash};
+ghost use Rattle.iddqd_bi.specs.Bag.{IsOnly, conflicts_of};
 
 use iddqd_bi::{BiHashItem, BiHashMap, Ranked};
 use std::alloc::Global;
@@ -60,7 +60,7 @@ impl Hub {
     /// Plugs a device in, or returns it if its serial number or its port is taken, or if there is no memory.
     pub fn plug_in(&mut self, device: Device) -> Result<(), Device>
         ensures went_in { OnOk result (IsPermutation self.new.0 (device ∷ self.old.0)) }
-        ensures granted { clash ⟦<Device as Ranked>⟧.ranks self.old.0 device ≡ []
+        ensures granted { conflicts_of ⟦<Device as Ranked>⟧.ranks self.old.0 device ≡ []
             → length self.old.0 < self.old.1 → IsOk result }
         ensures handed_back { IfErr result (λ d. d ≡ device) }
         ensures unchanged { OnErr result (self.new ≡ self.old) }

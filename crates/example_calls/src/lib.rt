@@ -24,6 +24,7 @@ pub mod queries;
 pub mod refusals;
 pub mod retain;
 pub mod seed;
+pub mod services;
 pub mod settings;
 pub mod sleds;
 pub mod traits;

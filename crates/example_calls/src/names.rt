@@ -1,7 +1,7 @@
 //! A text as a key: items hold it as a `String`, and lookups take a `&str`.
 ghost use Rattle.std.specs.Prelude.{◌≡◌, ◌<◌, ◌∷◌, [], nat_eq, string_bytes, length, IsOk, IsPermutation, OnOk, OnErr, IfErr, IfSome, IfNone, option_copied};
 ghost use Rattle.std.specs.Cmp.Lexicographic.{pointwise};
-ghost use Rattle.iddqd_id.specs.Bag.{IsOnly, clash};
+ghost use Rattle.iddqd_id.specs.Bag.{IsOnly, conflicts_of};
 ghost use Rattle.iddqd_id.specs.Map.{bag};
 
 use iddqd_id::{IdHashItem, IdHashMap, Ranked};
@@ -26,7 +26,7 @@ impl IdHashItem for Symbol {
 /// Defines a symbol, or returns it.
 pub fn define(symbols: &mut IdHashMap<Symbol>, symbol: Symbol) -> Result<(), Symbol>
     ensures went_in { OnOk result (IsPermutation (bag symbols.new) (symbol ∷ bag symbols.old)) }
-    ensures granted { clash ⟦<Symbol as Ranked>⟧.ranks (bag symbols.old) symbol ≡ []
+    ensures granted { conflicts_of ⟦<Symbol as Ranked>⟧.ranks (bag symbols.old) symbol ≡ []
         → length (bag symbols.old) < symbols.old.capacity → IsOk result }
     ensures handed_back { IfErr result (λ s. s ≡ symbol) }
     ensures unchanged { OnErr result (symbols.new ≡ symbols.old) }

@@ -1,7 +1,7 @@
 //! Inserting an item in place of all that conflict with it, and using the items that were removed.
 ghost use Rattle.std.specs.Prelude.{◌≡◌, ◌≤◌, ◌==◌, [], true, All, IsPermutation, OnOk, OnErr, IfOk, IfErr, IfSome, IfNone, slice_get};
 ghost use Rattle.std.specs.List.{list_any};
-ghost use Rattle.iddqd_bi.specs.Bag.{order, over};
+ghost use Rattle.iddqd_bi.specs.Bag.{conflicting, with_item};
 ghost use Rattle.iddqd_bi.specs.Map.{IsFullFor, bag};
 
 use iddqd_bi::{BiHashItem, BiHashMap, MemoryRefused, Ranked, UpToTwo};
@@ -48,8 +48,8 @@ pub fn check_in(
     guest: Guest,
 ) -> Result<UpToTwo<Guest>, MemoryRefused<Guest>>
     ensures in_and_out { OnOk result (IsPermutation (bag guests.new)
-        (over ⟦<Guest as Ranked>⟧.ranks (bag guests.old) guest)) }
-    ensures gone { IfOk result (λ gone. gone ≡ order ⟦<Guest as Ranked>⟧.ranks (bag guests.old) guest) }
+        (with_item ⟦<Guest as Ranked>⟧.ranks (bag guests.old) guest)) }
+    ensures gone { IfOk result (λ gone. gone ≡ conflicting ⟦<Guest as Ranked>⟧.ranks (bag guests.old) guest) }
     ensures unchanged { OnErr result (guests.new ≡ guests.old) }
     ensures reason { OnErr result (IsFullFor ⟦<Guest as Ranked>⟧.ranks guests.old guest) }
     ensures handed_back { IfErr result (λ e. e.value ≡ guest) }

@@ -1,6 +1,6 @@
 //! An insert, and what to do with its error.
 ghost use Rattle.std.specs.Prelude.{◌≡◌, ◌≢◌, [], ◌∷◌, length, IsPermutation, OnOk, OnErr, IfErr};
-ghost use Rattle.iddqd_bi.specs.Bag.{clash, order};
+ghost use Rattle.iddqd_bi.specs.Bag.{conflicts_of, conflicting};
 ghost use Rattle.iddqd_bi.specs.Map.{IsFullFor, bag};
 
 use iddqd_bi::{BiHashItem, BiHashMap, InsertReason, Ranked};
@@ -45,8 +45,8 @@ pub fn connect(lines: &mut BiHashMap<Line>, line: Line) -> Result<(), Refused>
     ensures handed_back { IfErr result (λ r. r.line ≡ line) }
     ensures full { IfErr result (λ r. r.reason ≡ InsertReason.Memory → IsFullFor ⟦<Line as Ranked>⟧.ranks lines.old line) }
     ensures taken { IfErr result (λ r. r.reason ≡ InsertReason.Duplicate
-        → clash ⟦<Line as Ranked>⟧.ranks (bag lines.old) line ≢ []) }
-    ensures count { IfErr result (λ r. r.conflicts ≡ length (order ⟦<Line as Ranked>⟧.ranks (bag lines.old) line)) }
+        → conflicts_of ⟦<Line as Ranked>⟧.ranks (bag lines.old) line ≢ []) }
+    ensures count { IfErr result (λ r. r.conflicts ≡ length (conflicting ⟦<Line as Ranked>⟧.ranks (bag lines.old) line)) }
 {
     match lines.insert_unique(line) {
         Ok(()) => Ok(()),

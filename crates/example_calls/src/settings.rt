@@ -2,7 +2,7 @@
 ghost use Rattle.std.specs.Prelude.{◌≡◌, ◌<◌, ◌∷◌, [], nat_eq, length, IsOk, IsPermutation, OnOk, OnErr, IfErr, IfSome, IfNone, option_copied};
 ghost use Rattle.std.specs.Cmp.Lexicographic.{pointwise};
 ghost use Rattle.std.specs.List.{list_any};
-ghost use Rattle.iddqd_id.specs.Bag.{IsOnly, clash};
+ghost use Rattle.iddqd_id.specs.Bag.{IsOnly, conflicts_of};
 ghost use Rattle.iddqd_id.specs.Map.{bag};
 
 use iddqd_id::{IdHashItem, IdHashMap, Ranked, Rejected};
@@ -39,7 +39,7 @@ pub fn add_setting(
     setting: Setting,
 ) -> Result<(), Rejected<Setting>>
     ensures went_in { OnOk result (IsPermutation (bag settings.new) (setting ∷ bag settings.old)) }
-    ensures granted { clash ⟦<Setting as Ranked>⟧.ranks (bag settings.old) setting ≡ []
+    ensures granted { conflicts_of ⟦<Setting as Ranked>⟧.ranks (bag settings.old) setting ≡ []
         → length (bag settings.old) < settings.old.capacity → IsOk result }
     ensures handed_back { IfErr result (λ e. e.item ≡ setting) }
     ensures taken { IfErr result (λ e. e.taken ≡

@@ -2,7 +2,7 @@
 ghost use Rattle.std.specs.Prelude.{◌≡◌, ◌∷◌, [], IsTrue, IsSome, OnOk, IfOk, IfSome, IfNone, length, IsPermutation, nat_eq};
 ghost use Rattle.std.specs.HashMap.{get};
 ghost use Rattle.std.proofs.Common.{rules};
-ghost use Rattle.iddqd_bi.specs.Bag.{IsCopy, is_same, order, overs};
+ghost use Rattle.iddqd_bi.specs.Bag.{IsCopy, is_same, conflicting, with_items};
 ghost use Rattle.iddqd_bi.specs.Map.{bag};
 
 use iddqd_bi::{BiHashItem, BiHashMap, ClonesKeys, Ranked};
@@ -50,7 +50,7 @@ pub struct Floor {
 
 /// Makes a map of badges. A later badge takes the place of earlier ones with its number or its holder.
 pub fn issue(alloc: Global, badges: Vec<DoorBadge>) -> Result<BiHashMap<DoorBadge>, AllocError>
-    ensures { IfOk result (λ map. IsPermutation (bag map) (overs ⟦<DoorBadge as Ranked>⟧.ranks [] badges.items)) }
+    ensures { IfOk result (λ map. IsPermutation (bag map) (with_items ⟦<DoorBadge as Ranked>⟧.ranks [] badges.items)) }
 {
     badges.into_iter().collect::<BiHashMap<DoorBadge>>(alloc)
 }
@@ -88,7 +88,7 @@ pub fn open_level(
 
 /// Returns how many badges have the number or the holder of this one.
 pub fn conflicts(badges: &BiHashMap<DoorBadge>, badge: &DoorBadge) -> usize
-    ensures { result ≡ length (order ⟦<DoorBadge as Ranked>⟧.ranks (bag badges.now) badge.now) }
+    ensures { result ≡ length (conflicting ⟦<DoorBadge as Ranked>⟧.ranks (bag badges.now) badge.now) }
 {
     badges.conflicts_with(badge).len()
 }

@@ -1,7 +1,7 @@
 //! Keys of several fields: each is a struct in a field of the item. The item's own `==` compares all of it.
 ghost use Rattle.std.specs.Prelude.{◌≡◌, ◌<◌, ◌==◌, ◌&&◌, ◌∷◌, [], length, IsOk, IsPermutation, OnOk, OnErr, IfErr, IfSome, IfNone, option_copied};
 ghost use Rattle.std.specs.List.{list_any};
-ghost use Rattle.iddqd_bi.specs.Bag.{IsOnly, clash};
+ghost use Rattle.iddqd_bi.specs.Bag.{IsOnly, conflicts_of};
 ghost use Rattle.iddqd_bi.specs.Map.{bag};
 
 use iddqd_bi::{BiHashItem, BiHashMap, Ranked, Rejected};
@@ -50,7 +50,7 @@ impl BiHashItem for Volume {
 /// is taken.
 pub fn shelve(volumes: &mut BiHashMap<Volume>, volume: Volume) -> Result<(), Rejected<Volume>>
     ensures went_in { OnOk result (IsPermutation (bag volumes.new) (volume ∷ bag volumes.old)) }
-    ensures granted { clash ⟦<Volume as Ranked>⟧.ranks (bag volumes.old) volume ≡ []
+    ensures granted { conflicts_of ⟦<Volume as Ranked>⟧.ranks (bag volumes.old) volume ≡ []
         → length (bag volumes.old) < volumes.old.capacity → IsOk result }
     ensures handed_back { IfErr result (λ e. e.item ≡ volume) }
     ensures taken { IfErr result (λ e.

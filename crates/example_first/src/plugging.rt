@@ -1,7 +1,7 @@
 //! Plugging devices in and finding them, with contracts.
 ghost use Rattle.std.specs.Prelude.{◌≡◌, ◌<◌, ◌∷◌, ◌==◌, [], length, IsOk, IsPermutation, OnOk, OnErr, IfErr, option_copied};
 ghost use Rattle.std.specs.List.{list_any};
-ghost use Rattle.iddqd_bi.specs.Bag.{IsOnly, clash};
+ghost use Rattle.iddqd_bi.specs.Bag.{IsOnly, conflicts_of};
 ghost use Rattle.iddqd_bi.specs.Map.{bag};
 
 use crate::Device;
@@ -11,7 +11,7 @@ use iddqd_bi::{BiHashMap, Ranked, Rejected};
 /// says which of the two is taken.
 pub fn plug_in(devices: &mut BiHashMap<Device>, device: Device) -> Result<(), Rejected<Device>>
     ensures went_in { OnOk result (IsPermutation (bag devices.new) (device ∷ bag devices.old)) }
-    ensures granted { clash ⟦<Device as Ranked>⟧.ranks (bag devices.old) device ≡ []
+    ensures granted { conflicts_of ⟦<Device as Ranked>⟧.ranks (bag devices.old) device ≡ []
         → length (bag devices.old) < devices.old.capacity → IsOk result }
     ensures handed_back { IfErr result (λ e. e.item ≡ device) }
     ensures serial_taken { IfErr result (λ e. e.taken1 ≡ list_any (λ d. device.serial == d.serial) (bag devices.old)) }

@@ -1,6 +1,6 @@
 -- What the status of an answer says of the sessions.
 use Rattle.std.specs.Prelude.{◌≡◌, ◌≢◌, ◌==◌, ◌<◌, ◌^◌, ◌∷◌, ◌++◌, ℕ, List, codes, decimal, None, Some, IsPermutation}
-use Rattle.iddqd_tri.specs.Bag.{IsOnly, Ranks, over}
+use Rattle.iddqd_tri.specs.Bag.{IsOnly, Ranks, with_item}
 use Rattle.iddqd_tri.specs.Map.{Map, bag}
 use Rattle.http.specs.declared.request.Parts.{Parts}
 use Rattle.http.specs.Uri.{uri_path}
@@ -13,7 +13,7 @@ path_of token = codes "/sessions/" ++ decimal token
 -- The status answers a request with this head, before which the sessions were those of `old`, and after which they are those of `new`.
 pub record IsAnswer {S : Type 0} (ranks : Ranks Session) (old new : Map Session S) (head : Parts) (status : ℕ) : Type 0 where
   -- one session was opened, and took the place of those that conflict with it; no clause says that it is the one of the body
-  pub opened : status ≡ 201 → (head.method ≡ codes "POST") × ((s : Session) × IsPermutation (bag new) (over ranks (bag old) s))
+  pub opened : status ≡ 201 → (head.method ≡ codes "POST") × ((s : Session) × IsPermutation (bag new) (with_item ranks (bag old) s))
   -- the session whose path this is was closed, and no other
   pub closed : status ≡ 204 → (head.method ≡ codes "DELETE") × ((s : Session) × (uri_path head.uri ≡ path_of s.token)
       × IsOnly (λ t. s.token == t.token) (bag old) (Some s) × IsPermutation (bag old) (s ∷ bag new))

@@ -13,7 +13,7 @@ ghost use Rattle.example_http.specs.Answer.{IsAnswer, path_of};
 ghost use Rattle.example_http.specs.declared.sessions.Session.{Session};
 ghost use Rattle.http.specs.FieldValue.{is_visible_text};
 ghost use Rattle.http.specs.Request.{head_of};
-ghost use Rattle.iddqd_tri.specs.Bag.{IsOnly, over};
+ghost use Rattle.iddqd_tri.specs.Bag.{IsOnly, with_item};
 ghost use Rattle.iddqd_tri.specs.Map.{bag};
 
 use crate::sessions::{Session, Sessions, by_token, close, open};
@@ -121,7 +121,7 @@ fn answer_open(
     response: &mut Response,
 ) -> Result<(), AllocError>
     ensures opened { OnOk result (response.new.status ≡ 201 → (s : Session) × IsPermutation (bag sessions.new)
-        (over ⟦<Session as Ranked>⟧.ranks (bag sessions.old) s)) }
+        (with_item ⟦<Session as Ranked>⟧.ranks (bag sessions.old) s)) }
     ensures unchanged { OnOk result (response.new.status ≢ 201 → sessions.new ≡ sessions.old) }
     ensures no_close { OnOk result (response.new.status ≢ 204) }
     ensures err { OnErr result (sessions.new ≡ sessions.old) }

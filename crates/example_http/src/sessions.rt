@@ -1,6 +1,6 @@
 //! Sessions, each known by its number, by its token and by the peer that it is with.
 ghost use Rattle.std.specs.Prelude.{◌≡◌, ◌==◌, ◌∷◌, IsPermutation, OnOk, OnErr, IfOk, IfErr, IfSome, IfNone, option_copied};
-ghost use Rattle.iddqd_tri.specs.Bag.{IsOnly, order, over};
+ghost use Rattle.iddqd_tri.specs.Bag.{IsOnly, conflicting, with_item};
 ghost use Rattle.iddqd_tri.specs.Map.{IsFullFor, bag};
 
 use iddqd_tri::{MemoryRefused, Ranked, TriHashItem, TriHashMap, UpToThree};
@@ -59,8 +59,8 @@ pub fn open(
     session: Session,
 ) -> Result<UpToThree<Session>, MemoryRefused<Session>>
     ensures opened { OnOk result (IsPermutation (bag sessions.new)
-        (over ⟦<Session as Ranked>⟧.ranks (bag sessions.old) session)) }
-    ensures closed { IfOk result (λ closed. closed ≡ order ⟦<Session as Ranked>⟧.ranks (bag sessions.old) session) }
+        (with_item ⟦<Session as Ranked>⟧.ranks (bag sessions.old) session)) }
+    ensures closed { IfOk result (λ closed. closed ≡ conflicting ⟦<Session as Ranked>⟧.ranks (bag sessions.old) session) }
     ensures unchanged { OnErr result (sessions.new ≡ sessions.old) }
     ensures reason { OnErr result (IsFullFor ⟦<Session as Ranked>⟧.ranks sessions.old session) }
     ensures handed_back { IfErr result (λ e. e.value ≡ session) }

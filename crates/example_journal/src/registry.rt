@@ -2,7 +2,7 @@
 ghost use Rattle.std.specs.Prelude.{◌≡◌, ◌≢◌, ◌∷◌, ◌++◌, ◌==◌, ◌+◌, ℕ, List, [], true, false, Some, length, take, drop, ◌⊎◌, IsPermutation, IsErrOf, OnOk, OnErr, IfOk, IfSome, option_map};
 ghost use Rattle.std.specs.List.{list_any};
 ghost use Rattle.std.specs.Option.{ForSome};
-ghost use Rattle.iddqd_bi.specs.Bag.{IsOnly, clash};
+ghost use Rattle.iddqd_bi.specs.Bag.{IsOnly, conflicts_of};
 ghost use Rattle.iddqd_bi.specs.Map.{bag};
 ghost use Rattle.example_journal.specs.Changes.{InRange, IsTorn, Tells, line_of};
 ghost use Rattle.example_journal.specs.declared.changes.Change.{Change};
@@ -125,7 +125,7 @@ impl<L: Log + Drop> Registry<L> {
         ensures unchanged { OnErr result (bag self.new.devices ≡ bag self.old.devices) }
         ensures same_lines { OnErr result (self.new.is_open ≡ true → L.kept self.new.log ≡ L.kept self.old.log) }
         ensures taken { IsErrOf result Failure.Taken
-            → clash ⟦<Device as Ranked>⟧.ranks (bag self.old.devices) device ≢ [] }
+            → conflicts_of ⟦<Device as Ranked>⟧.ranks (bag self.old.devices) device ≢ [] }
         ensures other { (IsErrOf result Failure.NoDevice → ⊥) × (IsErrOf result Failure.Closed → self.new.is_open ≡ false) }
         ensures left { self.old.is_open ≡ false → L.kept self.new.log ≡ L.kept self.old.log }
     {

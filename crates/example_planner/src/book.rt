@@ -4,7 +4,7 @@ ghost use Rattle.std.proofs.Common.{rules};
 ghost use Rattle.std.specs.List.{list_any};
 ghost use Rattle.std.specs.Ordering.{nat_cmp};
 ghost use Rattle.iddqd_ord.specs.Bag.{IsOnly};
-ghost use Rattle.iddqd_ord.specs.Items.{items, put};
+ghost use Rattle.iddqd_ord.specs.Items.{items, with_item};
 
 use iddqd_ord::{IdOrdItem, IdOrdItemMut, IdOrdMap, Iter, MemoryRefused};
 
@@ -61,7 +61,7 @@ pub fn set_level(
     level: Level,
 ) -> Result<Option<Level>, MemoryRefused<Level>>
     ensures it { IfOk result (IsOnly (λ l. l.price == level.price) (items levels.old)) }
-    ensures set { OnOk result (items levels.new ≡ put ⟦<Level as IdOrdItem>⟧ nat_cmp (items levels.old) level) }
+    ensures set { OnOk result (items levels.new ≡ with_item ⟦<Level as IdOrdItem>⟧ nat_cmp (items levels.old) level) }
     ensures unchanged { OnErr result (levels.new ≡ levels.old) }
 {
     levels.insert_overwrite(level)

@@ -3,7 +3,7 @@ ghost use Rattle.std.specs.Prelude.{◌≡◌, ◌<◌, ◌∷◌, ◌==◌, ◌
 ghost use Rattle.std.specs.List.{list_any};
 ghost use Rattle.std.specs.Ordering.{nat_cmp};
 ghost use Rattle.iddqd_ord.specs.Bag.{IsOnly};
-ghost use Rattle.iddqd_ord.specs.Items.{items, put};
+ghost use Rattle.iddqd_ord.specs.Items.{items, with_item};
 
 use iddqd_ord::{IdOrdItem, IdOrdMap, Iter, Rejected};
 
@@ -26,7 +26,7 @@ impl IdOrdItem for Step {
 
 /// Books a step at its place, or returns it if its time is taken, or if there is no memory.
 pub fn book(steps: &mut IdOrdMap<Step>, step: Step) -> Result<(), Rejected<Step>>
-    ensures went_in { OnOk result (items steps.new ≡ put ⟦<Step as IdOrdItem>⟧ nat_cmp (items steps.old) step) }
+    ensures went_in { OnOk result (items steps.new ≡ with_item ⟦<Step as IdOrdItem>⟧ nat_cmp (items steps.old) step) }
     ensures free { OnOk result (list_any (λ s. s.due == step.due) (items steps.old) ≡ false) }
     ensures granted { list_any (λ s. s.due == step.due) (items steps.old) ≡ false
         → length (items steps.old) < steps.old.capacity → IsOk result }

@@ -6,7 +6,7 @@ use Rattle.std.proofs.lemmas.Cmp.{nat_eq_equiv}
 use Rattle.std.proofs.lemmas.List.Sorted.{length_permutation}
 use Rattle.iddqd_store.proofs.CallerLemmas.{passes-listed}
 use Rattle.iddqd_store.proofs.RankLemmas.Index.{Contains-here}
-use Rattle.iddqd_bi.specs.Bag.{AreLawful, IsSound, Ranks, clash}
+use Rattle.iddqd_bi.specs.Bag.{AreLawful, IsSound, Ranks, conflicts_of}
 use Rattle.iddqd_bi.specs.Keys.{ranks}
 use Rattle.iddqd_bi.specs.Map.{Map, bag}
 use Rattle.iddqd_bi.specs.Rank.{agree}
@@ -62,7 +62,7 @@ module _ {S : Type 0} (one other : ℕ) (old mid : Map Order S) (a b : Order) (a
   pub comes_back : {E P : Type 0} (between : Map Order S) (r : Result Order E) → is_err r ≡ false →
       IfOk r (λ x. x ∷ [] ≡ filter (numbered one) (bag mid)) → IfOk r (λ x. PutsInPlace mid x (moved_of a b) between) →
       length (bag old) ≤ old.capacity → mid.capacity ≡ old.capacity →
-      (clash item_ranks (bag between) (moved_of b a) ≡ [] → length (bag between) < between.capacity → P) → P
+      (conflicts_of item_ranks (bag between) (moved_of b a) ≡ [] → length (bag between) < between.capacity → P) → P
   comes_back between r done found put fits same_room granted =
       let it = ok_both r done found put in
       let same : it.0 ≡ a = found_before (numbered one) (bag old) (bag mid) it.0 a b left it.1 first in

@@ -7,12 +7,12 @@ use Rattle.std.specs.Option.{option_to_list}
 use Rattle.std.proofs.lemmas.List.{nil_from_length}
 use Rattle.std.proofs.lemmas.List.Sorted.{Contains-permutation, IsPermutation-sym, IsPermutation-trans, length_permutation}
 use Rattle.std.proofs.lemmas.Map.Keys.{IsDistinct-tail}
-use Rattle.iddqd_store.specs.Bag.{AreLawful, IsSound, Ranks, clash, conflicts}
+use Rattle.iddqd_store.specs.Bag.{AreLawful, IsSound, Ranks, conflicts_of, do_conflict}
 use Rattle.iddqd_bi.specs.Map.{Loses, Map, bag}
 use Rattle.iddqd_bi.specs.Rekeyed.{TellsWhyNot}
 use Rattle.iddqd_bi.specs.declared.error.NotReplaced.{NotReplaced}
 use Rattle.iddqd_bi.specs.declared.error.NotReplaced.TheVariants.{Absent, Duplicate}
-use Rattle.iddqd_store.proofs.BagLemmas.Sound.{AreNames-like, Contains-filter, IsSound-IsPermutation, IsSound-rank, all_pass, each_weaker, length-named, none_pass}
+use Rattle.iddqd_store.proofs.BagLemmas.Sound.{AreNames-tests_of, Contains-filter, IsSound-IsPermutation, IsSound-rank, all_pass, each_weaker, length-named, none_pass}
 use Rattle.iddqd_store.proofs.BagLemmas.Steps.{none_passes}
 use Rattle.iddqd_store.proofs.BagLemmas.Exchanges.{IsPermutation-filter}
 use Rattle.iddqd_store.proofs.CallerLemmas.{passes-listed}
@@ -80,25 +80,25 @@ module _ {T : Type 0} (by1 by2 : T → T → Bool) (laws : AreLawful (by1 ∷ by
 
   -- `moved` has the first key of `x` and the second of `b`, which left
   pub free_for_moved : (old mid rest : List T) (b x moved : T) → IsSound item_ranks old → IsPermutation old (b ∷ mid) → IsPermutation mid (x ∷ rest)
-      → by1 moved x ≡ true → by2 moved b ≡ true → clash item_ranks rest moved ≡ []
+      → by1 moved x ≡ true → by2 moved b ≡ true → conflicts_of item_ranks rest moved ≡ []
   free_for_moved old mid rest b x moved sound left put same1 same2 =
-      let names = AreNames-like item_ranks moved laws in
-      let sound_mid = IsDistinct-tail (conflicts item_ranks) b mid (IsSound-IsPermutation item_ranks laws old (b ∷ mid) left sound) in
+      let names = AreNames-tests_of item_ranks moved laws in
+      let sound_mid = IsDistinct-tail (do_conflict item_ranks) b mid (IsSound-IsPermutation item_ranks laws old (b ∷ mid) left sound) in
       let distinct1 = (IsSound-rank by1 (by2 ∷ []) mid sound_mid).0 in
       let distinct2 = (IsSound-rank by2 [] old (IsSound-rank by1 (by2 ∷ []) old sound).1).0 in
       let none1 = only_one (by1 moved) mid rest x put same1 (length-named by1 (by1 moved) names.0 mid distinct1) in
       let none2 = none_behind (by2 moved) mid rest x put (only_one (by2 moved) old mid b left same2 (length-named by2 (by2 moved) names.1.0 old distinct2)) in
-      none_pass (conflicts item_ranks moved) rest (neither (by1 moved) (by2 moved) rest (none_passes (by1 moved) rest none1) (none_passes (by2 moved) rest none2))
+      none_pass (do_conflict item_ranks moved) rest (neither (by1 moved) (by2 moved) rest (none_passes (by1 moved) rest none1) (none_passes (by2 moved) rest none2))
 
   -- `back` has the first key of `b` and the second of `a`, in whose place `moved` is
   pub free_for_back : (old mid between : List T) (a b moved back : T) → IsSound item_ranks old → IsPermutation old (b ∷ mid)
       → IsPermutation (a ∷ between) (moved ∷ mid) → Contains mid a → by1 back b ≡ true → by2 back a ≡ true → by1 back moved ≡ false
-      → by2 moved b ≡ true → clash item_ranks between back ≡ []
+      → by2 moved b ≡ true → conflicts_of item_ranks between back ≡ []
   free_for_back old mid between a b moved back sound left put there same1 same2 apart same3 =
-      let names = AreNames-like item_ranks back laws in
-      let named = AreNames-like item_ranks b laws in
+      let names = AreNames-tests_of item_ranks back laws in
+      let named = AreNames-tests_of item_ranks b laws in
       let put' = IsPermutation-sym _ _ put in
-      let sound_mid = IsDistinct-tail (conflicts item_ranks) b mid (IsSound-IsPermutation item_ranks laws old (b ∷ mid) left sound) in
+      let sound_mid = IsDistinct-tail (do_conflict item_ranks) b mid (IsSound-IsPermutation item_ranks laws old (b ∷ mid) left sound) in
       let distinct1 = (IsSound-rank by1 (by2 ∷ []) old sound).0 in
       let distinct2 = (IsSound-rank by2 [] old (IsSound-rank by1 (by2 ∷ []) old sound).1).0 in
       let distinct_mid = (IsSound-rank by2 [] mid (IsSound-rank by1 (by2 ∷ []) mid sound_mid).1).0 in
@@ -109,7 +109,7 @@ module _ {T : Type 0} (by1 by2 : T → T → Bool) (laws : AreLawful (by1 ∷ by
       let apart2 : by2 back moved ≡ false = not_both (by2 back moved) (λ yes. false≢true (sym apart_a ∙ is_near yes)) in
       let few : length (filter (by2 back) (moved ∷ mid)) ≤ 1 = rw apart2 (length-named by2 (by2 back) names.1.0 mid distinct_mid) in
       let none2 = only_one (by2 back) (moved ∷ mid) between a put' same2 few in
-      none_pass (conflicts item_ranks back) between (neither (by1 back) (by2 back) between
+      none_pass (do_conflict item_ranks back) between (neither (by1 back) (by2 back) between
       (none_passes (by1 back) between (none_behind (by1 back) (moved ∷ mid) between a put' none1)) (none_passes (by2 back) between none2))
 
   -- an item with the key of `moved` is replaced by it

@@ -2,7 +2,7 @@
 ghost use Rattle.std.specs.Prelude.{◌≡◌, ◌<◌, [], ◌∷◌, nat_eq, string_bytes, length, true, false, None, Some, IsPermutation};
 ghost use Rattle.std.specs.Cmp.Lexicographic.{pointwise};
 ghost use Rattle.std.proofs.Common.{rules};
-ghost use Rattle.iddqd_bi.specs.Bag.{IsOnly, clash, swap};
+ghost use Rattle.iddqd_bi.specs.Bag.{IsOnly, conflicts_of, swap};
 ghost use Rattle.iddqd_bi.specs.Map.{bag};
 
 use crate::orders::Order;
@@ -59,7 +59,7 @@ pub fn enter(books: &mut BiHashMap<Book>, name: &str, order: Order) -> bool
         × (c.name ≡ b.name) × (c.shelf ≡ b.shelf) × IsPermutation (bag c.orders) (order ∷ bag b.orders)
         × IsPermutation (bag books.new) (swap ⟦<Book as Ranked>⟧.ranks (bag books.old) b c) }
     ensures granted { (b : Book) → IsOnly (λ b. pointwise nat_eq name.now (string_bytes b.name)) (bag books.old) (Some b)
-        → clash ⟦<Order as Ranked>⟧.ranks (bag b.orders) order ≡ []
+        → conflicts_of ⟦<Order as Ranked>⟧.ranks (bag b.orders) order ≡ []
         → length (bag b.orders) < b.orders.capacity → result ≡ true }
     ensures refused { (b : Book) → IsOnly (λ b. pointwise nat_eq name.now (string_bytes b.name)) (bag books.old) (Some b)
         → result ≡ false → (c : Book) × (c.name ≡ b.name) × (c.shelf ≡ b.shelf) × (c.orders ≡ b.orders)

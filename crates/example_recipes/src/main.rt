@@ -2,11 +2,13 @@
 #![tactic(auto)]
 
 mod accounts;
+mod batches;
 mod books;
 mod orders;
 mod shared;
 
 use crate::accounts::{Account, transfer};
+use crate::batches::{load_free, refused};
 use crate::books::{Book, enter};
 use crate::orders::{Order, cheapest, replace_all, swap_places};
 use crate::shared::open;
@@ -211,8 +213,38 @@ fn show_accounts(rt: &impl Print, alloc: Global) -> anyhow::Result<()> {
     show_moved(rt, &mut accounts)
 }
 
+/// Prints which orders of a batch are refused, and how many others are added.
+fn show_added(
+    rt: &impl Print,
+    alloc: Global,
+    orders: &mut BiHashMap<Order>,
+    batch: [Order; 4],
+) -> anyhow::Result<()> {
+    add_three(orders)?;
+    let batch = Vec::from_array(alloc, batch)?;
+    for order in &refused(alloc, orders, batch.as_slice())? {
+        println!(rt; "refused: {} at {}", order.number, order.place)?;
+    }
+    let others = load_free(alloc, orders, batch)?;
+    println!(rt; "{} orders, {} refused", orders.len(), others.len())?;
+    Ok(())
+}
+
+/// Runs the recipes for batches of orders.
+fn show_batches(rt: &impl Print, alloc: Global) -> anyhow::Result<()> {
+    let mut orders = BiHashMap::new(alloc);
+    let batch = [
+        Order::new(4, 40, 0),
+        Order::new(5, 10, 0),
+        Order::new(6, 60, 0),
+        Order::new(6, 70, 0),
+    ];
+    show_added(rt, alloc, &mut orders, batch)
+}
+
 fn main(rt: HostRuntime) -> anyhow::Result<()> {
     show_orders(&rt, rt.alloc())?;
+    show_batches(&rt, rt.alloc())?;
     show_accounts(&rt, rt.alloc())?;
     show_books(&rt, rt.alloc())?;
     show_shared(&rt, rt.alloc())

@@ -1,7 +1,7 @@
 //! A table of sessions, each known by its number, by its token and by the peer that it is with.
 ghost use Rattle.std.specs.Prelude.{◌≡◌, ◌==◌, false, Some, None, filter, nat_le, length, IsPermutation, OnOk, OnErr, IfOk, IfErr, option_copied};
 ghost use Rattle.std.proofs.Common.{rules};
-ghost use Rattle.iddqd_tri.specs.Bag.{IsOnly, order, over, swap};
+ghost use Rattle.iddqd_tri.specs.Bag.{IsOnly, conflicting, with_item, swap};
 ghost use Rattle.iddqd_tri.specs.Map.{IsFullFor, bag};
 
 use iddqd_tri::{MemoryRefused, Ranked, TriHashItem, TriHashItemMut, TriHashMap, UpToThree};
@@ -79,8 +79,8 @@ pub fn open(
     session: Session,
 ) -> Result<UpToThree<Session>, MemoryRefused<Session>>
     ensures opened { OnOk result (IsPermutation (bag sessions.new)
-        (over ⟦<Session as Ranked>⟧.ranks (bag sessions.old) session)) }
-    ensures closed { IfOk result (λ closed. closed ≡ order ⟦<Session as Ranked>⟧.ranks (bag sessions.old) session) }
+        (with_item ⟦<Session as Ranked>⟧.ranks (bag sessions.old) session)) }
+    ensures closed { IfOk result (λ closed. closed ≡ conflicting ⟦<Session as Ranked>⟧.ranks (bag sessions.old) session) }
     ensures unchanged { OnErr result (sessions.new ≡ sessions.old) }
     ensures reason { OnErr result (IsFullFor ⟦<Session as Ranked>⟧.ranks sessions.old session) }
     ensures handed_back { IfErr result (λ e. e.value ≡ session) }

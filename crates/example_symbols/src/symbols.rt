@@ -3,7 +3,7 @@ ghost use Rattle.std.specs.Prelude.{◌≡◌, ◌<◌, ◌∷◌, ◌==◌, [],
 ghost use Rattle.std.specs.Cmp.Lexicographic.{pointwise};
 ghost use Rattle.std.specs.List.{list_any};
 ghost use Rattle.std.specs.String.{string_eq};
-ghost use Rattle.iddqd_bi.specs.Bag.{IsOnly, clash};
+ghost use Rattle.iddqd_bi.specs.Bag.{IsOnly, conflicts_of};
 ghost use Rattle.iddqd_bi.specs.Map.{bag};
 ghost use Rattle.iddqd_bi.specs.Rekeyed.{TellsWhyNot};
 
@@ -38,8 +38,8 @@ impl BiHashItem for Symbol {
 /// which of the two is taken. If neither is, there was no memory, and no spare capacity for one more.
 pub fn define(symbols: &mut BiHashMap<Symbol>, symbol: Symbol) -> Result<(), Rejected<Symbol>>
     ensures went_in { OnOk result (IsPermutation (bag symbols.new) (symbol ∷ bag symbols.old)) }
-    ensures free { OnOk result (clash ⟦<Symbol as Ranked>⟧.ranks (bag symbols.old) symbol ≡ []) }
-    ensures granted { clash ⟦<Symbol as Ranked>⟧.ranks (bag symbols.old) symbol ≡ []
+    ensures free { OnOk result (conflicts_of ⟦<Symbol as Ranked>⟧.ranks (bag symbols.old) symbol ≡ []) }
+    ensures granted { conflicts_of ⟦<Symbol as Ranked>⟧.ranks (bag symbols.old) symbol ≡ []
         → length (bag symbols.old) < symbols.old.capacity → IsOk result }
     ensures handed_back { IfErr result (λ e. e.item ≡ symbol) }
     ensures taken { IfErr result (λ e. (e.taken1 ≡ list_any (λ s. string_eq symbol.name s.name) (bag symbols.old))

@@ -4,9 +4,9 @@ ghost use Rattle.std.specs.Cmp.Lexicographic.{pointwise};
 ghost use Rattle.std.specs.List.{list_any};
 ghost use Rattle.std.specs.String.{string_eq};
 ghost use Rattle.std.proofs.Common.{rules};
-ghost use Rattle.iddqd_id.specs.Bag.{IsOnly, clash};
+ghost use Rattle.iddqd_id.specs.Bag.{IsOnly, conflicts_of};
 ghost use Rattle.iddqd_id.specs.Map.{IsFullFor, bag};
-ghost use Rattle.iddqd_id.specs.Rekeyed.{TellsWhyNot, left_out};
+ghost use Rattle.iddqd_id.specs.Rekeyed.{TellsWhyNot, refused_item};
 
 use iddqd_id::{IdHashItem, IdHashItemMut, IdHashMap, NotReplaced, Ranked};
 
@@ -46,7 +46,7 @@ impl IdHashItemMut for User {
 /// Enters a user, or returns them if their name is taken, or if there is no memory.
 pub fn enter(users: &mut IdHashMap<User>, user: User) -> Result<(), User>
     ensures went_in { OnOk result (IsPermutation (bag users.new) (user ∷ bag users.old)) }
-    ensures granted { clash ⟦<User as Ranked>⟧.ranks (bag users.old) user ≡ []
+    ensures granted { conflicts_of ⟦<User as Ranked>⟧.ranks (bag users.old) user ≡ []
         → length (bag users.old) < users.old.capacity → IsOk result }
     ensures handed_back { IfErr result (λ u. u ≡ user) }
     ensures reason { OnErr result (list_any (λ u. string_eq user.name u.name) (bag users.old) ≡ false
@@ -84,7 +84,7 @@ pub fn rename(
     ensures renamed { IfOk result (λ u. IsPermutation (u ∷ bag users.new)
         (record { name = new; seen = u.seen } ∷ bag users.old)) }
     ensures unchanged { OnErr result (users.new ≡ users.old) }
-    ensures name { IfErr result (λ e. (left_out e).name ≡ new) }
+    ensures name { IfErr result (λ e. (refused_item e).name ≡ new) }
     // Which error it is depends on the new name, and not on the time.
     ensures reason { IfErr result (λ e. TellsWhyNot ⟦<User as Ranked>⟧.ranks
         (λ u. pointwise nat_eq name.now (string_bytes u.name)) (bag users.old) (record { name = new; seen = 0 }) e) }

@@ -2,11 +2,11 @@ use Rattle.std.proofs.Common.{◌≡◌, [], ◌∷◌, List, None, length, ap, 
 use Rattle.std.specs.Prelude.{nat_eq}
 use Rattle.std.proofs.lemmas.Cmp.{nat_eq_equiv}
 use Rattle.std.proofs.lemmas.List.{nil_from_length}
-use Rattle.iddqd_bi.specs.Bag.{Ranks, clash, order}
+use Rattle.iddqd_bi.specs.Bag.{Ranks, conflicts_of, conflicting}
 use Rattle.iddqd_bi.specs.Map.{bag}
 use Rattle.iddqd_bi.specs.Mismatch.{error_rank}
 use Rattle.iddqd_bi.specs.Rank.{agree}
-use Rattle.iddqd_bi.proofs.CallerLemmas.{length-clash}
+use Rattle.iddqd_bi.proofs.CallerLemmas.{length-conflicts_of}
 use Rattle.example_calls.specs.declared.entry.Visit.{Visit}
 use Rattle.example_calls.proofs.entry.note_visit.Goals as goal
 
@@ -14,8 +14,8 @@ abbrev item_ranks : Ranks Visit
 item_ranks = agree (λ (v : Visit). v.number) nat_eq ∷ agree (λ (v : Visit). v.page) nat_eq ∷ []
 
 -- if nothing conflicts with the visit, its keys find nothing
-none_found : (there : List Visit) (v : Visit) → clash item_ranks there v ≡ [] → order item_ranks there v ≡ []
-none_found there v free = nil_from_length _ (sym (length-clash item_ranks there v) ∙ ap length free)
+none_found : (there : List Visit) (v : Visit) → conflicts_of item_ranks there v ≡ [] → conflicting item_ranks there v ≡ []
+none_found there v free = nil_from_length _ (sym (length-conflicts_of item_ranks there v) ∙ ap length free)
 
 pub returns-in-Occupied-clause-granted : goal.returns-in-Occupied-clause-granted
 returns-in-Occupied-clause-granted c free room =

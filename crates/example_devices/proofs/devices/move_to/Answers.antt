@@ -4,11 +4,11 @@ use Rattle.std.proofs.Common.{◌≡◌, ◌≢◌, [], ◌∷◌, ℕ, suc, Lis
 use Rattle.std.proofs.lemmas.Bool.{eqb-true}
 use Rattle.std.proofs.lemmas.List.{nil_from_length}
 use Rattle.std.proofs.lemmas.List.Sorted.{length_permutation}
-use Rattle.iddqd_bi.specs.Bag.{IsOnly, Ranks, clash}
+use Rattle.iddqd_bi.specs.Bag.{IsOnly, Ranks, conflicts_of}
 use Rattle.iddqd_bi.specs.Map.{bag}
 use Rattle.iddqd_bi.specs.Rank.{agree}
 use Rattle.iddqd_bi.specs.Rekeyed.{TellsWhyNot}
-use Rattle.iddqd_bi.proofs.CallerLemmas.Asking.{none-clash}
+use Rattle.iddqd_bi.proofs.CallerLemmas.Asking.{none-conflicts_of}
 use Rattle.iddqd_bi.proofs.CallerLemmas.Laws.{given-has, none-listed}
 use Rattle.iddqd_store.proofs.BagLemmas.Exchanges.{IsPermutation-filter}
 use Rattle.example_devices.specs.declared.devices.Device.{Device}
@@ -27,9 +27,9 @@ alone test old rest x only taken =
 
 -- so the conflicting item is the one at the port
 at_port : (rest : List Device) (y : Device) (b : Bool) → list_any (λ d. nat_eq y.port d.port) rest ≡ b
-    → list_any (λ d. nat_eq y.serial d.serial) rest ≡ false → clash item_ranks rest y ≢ [] → list_any (λ d. nat_eq y.port d.port) rest ≡ true
+    → list_any (λ d. nat_eq y.serial d.serial) rest ≡ false → conflicts_of item_ranks rest y ≢ [] → list_any (λ d. nat_eq y.port d.port) rest ≡ true
 at_port rest y true is none some = is
-at_port rest y false is none some = absurd (some (none-clash item_ranks rest y (none, (is, tt))))
+at_port rest y false is none some = absurd (some (none-conflicts_of item_ranks rest y (none, (is, tt))))
 
 same : (n : ℕ) (old : List Device) (x : Device) → IsOnly (λ d. nat_eq n d.serial) old (Some x) → x.serial ≡ n
 same n old x only = sym (eqb-true n x.serial (given-has (λ d. nat_eq n d.serial) old x only))

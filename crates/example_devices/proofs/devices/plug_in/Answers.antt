@@ -1,10 +1,10 @@
 use Rattle.std.specs.Prelude.{nat_eq}
 use Rattle.std.proofs.Common.{◌≡◌, ◌∷◌, ◌∙◌, [], List, Bor, length, map, sym, ap, arith, rules}
 use Rattle.std.proofs.lemmas.List.{nil_from_length, length-map}
-use Rattle.iddqd_bi.specs.Bag.{Ranks, clash, order}
+use Rattle.iddqd_bi.specs.Bag.{Ranks, conflicts_of, conflicting}
 use Rattle.iddqd_bi.specs.Map.{bag}
 use Rattle.iddqd_bi.specs.Rank.{agree}
-use Rattle.iddqd_bi.proofs.CallerLemmas.{length-clash}
+use Rattle.iddqd_bi.proofs.CallerLemmas.{length-conflicts_of}
 use Rattle.example_devices.specs.declared.devices.Device.{Device}
 use Rattle.example_devices.proofs.devices.plug_in.Goals as goal
 use Rattle.example_devices.proofs.devices.plug_in.Goals.{else-len-capacity-via-then-len-capacity+else-is_empty, else-len-capacity-via-else-len-capacity}
@@ -13,8 +13,8 @@ abbrev item_ranks : Ranks Device
 item_ranks = agree (λ (d : Device). d.serial) nat_eq ∷ agree (λ (d : Device). d.port) nat_eq ∷ []
 
 -- as many items conflict as are listed
-as_many : (there : List Device) (x : Device) (found : List (Bor Device)) → map (λ r. r.now) found ≡ order item_ranks there x → length (clash item_ranks there x) ≡ length found
-as_many there x found is = length-clash item_ranks there x ∙ ap length (sym is) ∙ length-map found (λ r. r.now)
+as_many : (there : List Device) (x : Device) (found : List (Bor Device)) → map (λ r. r.now) found ≡ conflicting item_ranks there x → length (conflicts_of item_ranks there x) ≡ length found
+as_many there x found is = length-conflicts_of item_ranks there x ∙ ap length (sym is) ∙ length-map found (λ r. r.now)
 
 -- if the limit is reached and nothing conflicts, the map is full for the device
 pub returns-then-is_empty-clause-full : goal.returns-then-is_empty-clause-full

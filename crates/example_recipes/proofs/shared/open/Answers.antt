@@ -6,7 +6,7 @@ use Rattle.std.specs.declared.rc.Rc.{Rc}
 use Rattle.std.proofs.lemmas.Bool.{or_parts}
 use Rattle.iddqd_store.proofs.BagLemmas.Sound.{each_weaker}
 use Rattle.iddqd_store.proofs.BagLemmas.Steps.{none_passes}
-use Rattle.iddqd_bi.specs.Bag.{Ranks, conflicts}
+use Rattle.iddqd_bi.specs.Bag.{Ranks, do_conflict}
 use Rattle.iddqd_bi.specs.Map.{bag}
 use Rattle.iddqd_bi.specs.Rank.{agree}
 use Rattle.example_recipes.proofs.Undone.{undone_by}
@@ -34,7 +34,7 @@ returns-in-Err-clause-not_among_all c =
     let x = c.in_ok-clone.field-0 in
     let number = c.deref.result.now.number in
     let own : x.value.number ≡ number = search rules in
-    let free = none_passes (conflicts item_ranks x) (bag c.args.all.now) c.in_ok-try_insert.ensures.free in
+    let free = none_passes (do_conflict item_ranks x) (bag c.args.all.now) c.in_ok-try_insert.ensures.free in
     undone_by (λ (r : Rc Order Global). number == r.value.number) (bag c.args.all.now) c.try_insert.new.self c.remove1.new.self x c.remove1.result
     (rw (← own) (each_weaker _ _ (λ y e. (or_parts _ _ e).0) (bag c.args.all.now) free))
     (rw (← own) (nat_eq_equiv.refl x.value.number))
