@@ -15,6 +15,8 @@ import sys
 # The folder in which the script was begun.
 FROM = os.getcwd()
 os.chdir(os.path.join(os.path.dirname(os.path.abspath(__file__)), ".."))
+# The folders of the modules that scripts share.
+sys.path += [os.path.abspath(f"tests/{it}") for it in ("making", "cases", "pages")]
 # A script that reads its own arguments says what its head says; argparse says more.
 if {"-h", "--help"} & {*sys.argv[1:]} and "argparse" not in sys.modules:
     print(sys.modules["__main__"].__doc__)
@@ -69,7 +71,7 @@ def libraries(path="crates.txt"):
 
 # What each crate of crates.txt is, for the scripts that go by it. A caller, a test and an example have that word in front of their name.
 KINDS = {
-    "iddqd_store": "store", "iddqd_id": "hash map", "iddqd_bi": "hash map", "iddqd_tri": "hash map", "iddqd_order": "order", "iddqd_ord": "ordered map",
+    "iddqd_store": "store", "iddqd_id": "hash map", "iddqd_bi": "hash map", "iddqd_tri": "hash map", "iddqd_order": "order", "iddqd_ord": "ordered map", "iddqd_sorted": "sorted map",
     "iddqd_commands": "commands", "iddqd_commands_bi": "commands", "iddqd_commands_tri": "commands",
     "iddqd_serde_id": "serde", "iddqd_serde_bi": "serde", "iddqd_serde_tri": "serde", "iddqd_serde_ord": "serde",
     "iddqd_text": "text program", "iddqd_run": "text program",
@@ -120,6 +122,11 @@ def files(crate="*", part="src/**/*.rt"):
     return sorted(glob.glob(f"crates/{crate}/{part}", recursive=True))
 
 
+def files_of_calls(crate):
+    """Returns the source files with the calls of a map: those of `src/map`, and of a layer over maps those of its widths too."""
+    return files(crate, "src/map/*.rt") + files(crate, "src/widths/*.rt")
+
+
 def in_maps(places, maps=("id", "bi", "tri")):
     """Returns these places, and in place of one with a `*` those of the maps."""
     return {place.replace("*", of): it for place, it in places.items() for of in maps}
@@ -136,9 +143,9 @@ def linked(folder, of, own=()):
 
 
 def refusing(room):
-    """Builds tests/fail_alloc.c in a folder, and returns the words that load it into the program behind them."""
+    """Builds tests/memory/fail_alloc.c in a folder, and returns the words that load it into the program behind them."""
     library, clang = f"{room}/fail_alloc.so", f"{kit()}/toolchain/bin/clang"
-    subprocess.run([clang, "-O1", "-shared", "-fPIC", "-nostdlib", "-fuse-ld=lld", "-o", library, "tests/fail_alloc.c"], check=True)
+    subprocess.run([clang, "-O1", "-shared", "-fPIC", "-nostdlib", "-fuse-ld=lld", "-o", library, "tests/memory/fail_alloc.c"], check=True)
     return ["env", f"LD_PRELOAD={library}"]
 
 
