@@ -19,6 +19,7 @@
 //!     --others        times text keys, items of 128 bytes and a random seed, with two keys, and nothing else
 //!     --ordered       times the ordered map beside a `BTreeMap`, and nothing else; with --memory, counts its bytes; with
 //!                     --others, times it with items of 128 bytes and with text keys
+//!     --sorted        times the maps with hashed keys and an order, and nothing else; with --memory, counts their bytes
 //!     --chosen        prints what keys with one home bucket cost under the default builder and a random seed
 mod by_hand;
 mod calls;
@@ -38,6 +39,7 @@ mod others;
 mod picture;
 mod processors;
 mod report;
+mod sorted;
 mod workload;
 
 use measure::{Plan, print_once};
@@ -108,6 +110,7 @@ struct Wanted {
     memory: bool,
     others: bool,
     ordered: bool,
+    sorted: bool,
     picture: Option<String>,
 }
 
@@ -149,6 +152,7 @@ fn wanted(mut words: impl Iterator<Item = String>) -> Wanted {
         memory: false,
         others: false,
         ordered: false,
+        sorted: false,
         picture: None,
     };
     while let Some(word) = words.next() {
@@ -171,6 +175,7 @@ fn wanted(mut words: impl Iterator<Item = String>) -> Wanted {
             "--memory" => wanted.memory = true,
             "--others" => wanted.others = true,
             "--ordered" => wanted.ordered = true,
+            "--sorted" => wanted.sorted = true,
             "--svg" => wanted.picture = Some(behind(&mut words, &word)),
             _ if word.starts_with(|c: char| c.is_ascii_digit()) => {
                 wanted.sizes = Some(word.split(',').map(size).collect());
@@ -252,6 +257,12 @@ impl Wanted {
                 ordered::operations()
             };
             vec![self.measured(ORDERED, operations, sizes)]
+        } else if self.sorted {
+            vec![
+                self.measured(sorted::NAMES[0], sorted::one(), sizes),
+                self.measured(sorted::NAMES[1], sorted::two(), sizes),
+                self.measured(sorted::NAMES[2], sorted::three(), sizes),
+            ]
         } else if self.others {
             vec![self.measured(map_name(2), others::operations(), sizes)]
         } else {
@@ -271,6 +282,7 @@ impl Wanted {
             () if self.page => &ON_PAGE,
             () if self.ordered && self.others => &ordered_others::SIZES,
             () if self.ordered => &ordered::SIZES,
+            () if self.sorted => &sorted::SIZES,
             () => &SIZES,
         });
         let maps = self.maps(&sizes);
@@ -315,25 +327,35 @@ fn run_once(words: &mut impl Iterator<Item = String>) {
 
 #[cfg(feature = "counts")]
 fn print_memory(wanted: &Wanted) {
-    let sizes = wanted.sizes(if wanted.ordered {
-        &ordered::SIZES
-    } else {
-        &memory::SIZES
+    let sizes = wanted.sizes(match () {
+        () if wanted.ordered => &ordered::SIZES[..],
+        () if wanted.sorted => &sorted::SIZES,
+        () => &memory::SIZES,
     });
     if wanted.ordered {
         let columns = memory::columns(ORDERED, &ordered::operations(), &sizes);
-        memory::print(&columns, &sizes);
-        return;
+        return memory::print(&columns, &sizes);
     }
     let mut columns = Vec::new();
+    let (names, one, two, three) = if wanted.sorted {
+        (sorted::NAMES, sorted::one(), sorted::two(), sorted::three())
+    } else {
+        let names = [1, 2, 3].map(map_name);
+        (
+            names,
+            operations::one(),
+            operations::two(),
+            operations::three(),
+        )
+    };
     if wanted.has_map(1) {
-        columns.extend(memory::columns(map_name(1), &operations::one(), &sizes));
+        columns.extend(memory::columns(names[0], &one, &sizes));
     }
     if wanted.has_map(2) {
-        columns.extend(memory::columns(map_name(2), &operations::two(), &sizes));
+        columns.extend(memory::columns(names[1], &two, &sizes));
     }
     if wanted.has_map(3) {
-        columns.extend(memory::columns(map_name(3), &operations::three(), &sizes));
+        columns.extend(memory::columns(names[2], &three, &sizes));
     }
     memory::print(&columns, &sizes);
 }

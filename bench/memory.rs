@@ -101,14 +101,17 @@ pub fn columns<const N: usize>(
 }
 
 fn columns_of<const N: usize>(head: String, grow: &Operation<N>, sizes: &[usize]) -> Vec<Column> {
-    let others = grow.others.iter().map(|(name, _)| format!("to {name}"));
-    let heads = [head].into_iter().chain(others);
+    // The bytes of the crate's map with one key are those of the slots, which stand for it.
+    let others = grow.others.iter();
+    let others = others.filter(|(name, _)| N > 1 || *name != "crate");
+    let names = others.clone().map(|(name, _)| format!("to {name}"));
+    let heads = [head].into_iter().chain(names);
     let mut columns: Vec<Column> = heads.map(|head| (head, Vec::new())).collect();
     for items in sizes {
         let load = (grow.load)(*items);
         let here = bytes(|| load.run(grow.exported, true));
         columns[0].1.push(divided(here, [*items as f64; 2], 0));
-        for ((_, run), (_, cells)) in grow.others.iter().zip(&mut columns[1..]) {
+        for ((_, run), (_, cells)) in others.clone().zip(&mut columns[1..]) {
             let there = run.map(|run| bytes(|| run(&load, true)));
             cells.push(there.map_or("-".to_string(), |there| divided(here, there, 2)));
         }
