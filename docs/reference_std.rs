@@ -1,4 +1,4 @@
-//! Items that Rattle's std has and Rust's std does not have, or has in another form. `docs/reference` shows signatures
+//! Items that Rattle's std has and Rust's std does not have, or has in another form. `docs/make_reference` shows signatures
 //! that use it.
 use std::marker::PhantomData;
 
@@ -87,6 +87,12 @@ pub trait FromIterator<T>: Sized {
 pub trait Extend<T> {
     /// Adds the items.
     fn extend<U: IntoIterator<Item = T>>(&mut self, iter: U) -> Result<(), AllocError>;
+}
+
+/// A type of which `mem::try_take` leaves a value in place of the one that it takes.
+pub trait Emptied: Sized {
+    /// Makes a value, with the allocator of this one.
+    fn emptied(like: &Self) -> Result<Self, AllocError>;
 }
 
 /// A type of which `or_default` makes a value, by the allocator of the map.
