@@ -12,7 +12,7 @@ mod iter_mut;
 mod made;
 mod map;
 mod pointers;
-mod ranks;
+pub mod ranks;
 mod ref_mut;
 mod rows;
 

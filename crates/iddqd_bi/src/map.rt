@@ -17,6 +17,7 @@ mod entry;
 mod extend;
 mod extract;
 mod find;
+mod finds_by;
 mod insert;
 mod iterate;
 mod overwrite;

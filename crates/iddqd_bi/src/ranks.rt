@@ -6,7 +6,7 @@ use std::hash::Hash;
 
 /// The rank of the first key.
 #[derive(Drop)]
-pub(crate) struct First;
+pub struct First;
 
 impl<T: BiHashItem> KeyOf<T> for First {
     type Key = T::K1;
@@ -20,7 +20,7 @@ impl<T: BiHashItem> KeyOf<T> for First {
 
 /// The rank of the second key.
 #[derive(Drop)]
-pub(crate) struct Second;
+pub struct Second;
 
 impl<T: BiHashItem> KeyOf<T> for Second {
     type Key = T::K2;

@@ -8,7 +8,7 @@ use std::hash::Hash;
 
 /// The rank of the key.
 #[derive(Drop)]
-pub(crate) struct First;
+pub struct First;
 
 impl<T: IdHashItem> KeyOf<T> for First {
     type Key = T::Key;

@@ -31,4 +31,4 @@ pub use query::Query;
 pub use rank::{ByQuery, FoundByHash, HashedKey, KeyOf, Lookup};
 pub use rows::{Row1, Row2, Row3};
 pub use short_list::{ShortIntoIter, ShortIter, ShortList, UpToThree, UpToTwo};
-pub use slot_map::SlotMap;
+pub use slot_map::{FindsBy, SlotMap, StoresData};

@@ -8,7 +8,7 @@ use std::hash::Hash;
 
 /// The rank of the first key.
 #[derive(Drop)]
-pub(crate) struct First;
+pub struct First;
 
 impl<T: TriHashItem> KeyOf<T> for First {
     type Key = T::K1;
@@ -22,7 +22,7 @@ impl<T: TriHashItem> KeyOf<T> for First {
 
 /// The rank of the second key.
 #[derive(Drop)]
-pub(crate) struct Second;
+pub struct Second;
 
 impl<T: TriHashItem> KeyOf<T> for Second {
     type Key = T::K2;
@@ -36,7 +36,7 @@ impl<T: TriHashItem> KeyOf<T> for Second {
 
 /// The rank of the third key.
 #[derive(Drop)]
-pub(crate) struct Third;
+pub struct Third;
 
 impl<T: TriHashItem> KeyOf<T> for Third {
     type Key = T::K3;

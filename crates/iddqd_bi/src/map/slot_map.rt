@@ -1,12 +1,17 @@
 //! The map as one of the hash maps, for code that serves each of them: its items by the numbers of their slots.
 ghost use Rattle.std.specs.Prelude.{[], ◌∷◌, refl};
+ghost use Rattle.std.proofs.Common.{◌∙◌};
+ghost use Rattle.iddqd_store.specs.Map.{hash_of};
 ghost use Rattle.iddqd_store.specs.Rank.{agree, key_hash};
 ghost use Rattle.iddqd_store.proofs.MapLemmas.{IsEquivalence-key};
 
 use super::BiHashMap;
 use crate::error::Rejected;
-use crate::item::BiHashItem;
-use iddqd_store::{Costs, ItemIndex, ItemSet, Meter, Searched, SlotMap, TryReserveError, Vacancy};
+use crate::item::{BiHashItem, BiHashItemMut};
+use iddqd_store::{
+    Costs, FoundByHash, ItemIndex, ItemSet, Meter, Searched, SlotMap, StoresData, TryReserveError,
+    UpToThree, Vacancy,
+};
 use std::alloc::Global;
 use std::hash::{BuildHasher, Hash};
 
@@ -21,6 +26,8 @@ impl<T: BiHashItem, S: BuildHasher> SlotMap for BiHashMap<T, S> {
 
     type Places = (Vacancy, Vacancy);
 
+    type Found = (FoundByHash, FoundByHash);
+
     type Taken = (bool, bool);
 
     type Rejected = Rejected<T>;
@@ -32,9 +39,13 @@ impl<T: BiHashItem, S: BuildHasher> SlotMap for BiHashMap<T, S> {
     ghost hashes = { λ s. key_hash T.key1 T.K1.hash_input S.BuildHasher S.Hasher.Hasher s
         ∷ key_hash T.key2 T.K2.hash_input S.BuildHasher S.Hasher.Hasher s ∷ [] };
 
+    ghost hash_of = { hash_of S.BuildHasher S.Hasher.Hasher };
+
     ghost first_key = { T.key1 };
 
     ghost spots = { λ at. at.0 ∷ at.1 ∷ [] };
+
+    ghost searched = { λ found. found.0 ∷ found.1 ∷ [] };
 
     ghost flags = { λ taken. taken.0 ∷ taken.1 ∷ [] };
 
@@ -71,15 +82,26 @@ impl<T: BiHashItem, S: BuildHasher> SlotMap for BiHashMap<T, S> {
     }
 
     #[inline(always)]
-    fn places(&self, item: &T, costs: &mut Costs) -> Result<Self::Places, Self::Taken> {
+    fn places(&self, item: &T, costs: &mut Costs) -> Result<Self::Places, Self::Found> {
         match BiHashMap::places(self, item, costs) {
             Searched::Vacant(at) => Ok(at),
-            Searched::Found(found) => {
-                let taken1 = found.0.slot().is_some();
-                let taken2 = found.1.slot().is_some();
-                Err((taken1, taken2))
-            }
+            Searched::Found(found) => Err(found),
         }
+    }
+
+    fn found_slots(found: &Self::Found) -> UpToThree<ItemIndex> {
+        let slot1 = found.0.slot();
+        let slot2 = found.1.slot();
+        let mut slots = UpToThree::new();
+        slots.push_found(slot1);
+        slots.push_found(slot2);
+        slots
+    }
+
+    fn taken(found: &Self::Found) -> Self::Taken {
+        let taken1 = found.0.slot().is_some();
+        let taken2 = found.1.slot().is_some();
+        (taken1, taken2)
     }
 
     fn slot_of_all(&self, item: &T, costs: &mut Costs) -> Option<ItemIndex> {
@@ -99,6 +121,35 @@ impl<T: BiHashItem, S: BuildHasher> SlotMap for BiHashMap<T, S> {
 
     fn replace_at(&mut self, slot: ItemIndex, item: T) -> T {
         BiHashMap::replace_at(self, slot, item)
+    }
+
+    fn overwrite_at(
+        &mut self,
+        slot: ItemIndex,
+        item: T,
+        found: &Self::Found,
+        meter: &mut Meter,
+    ) -> T {
+        self.overwrite_one(slot, item, found, meter)
+    }
+
+    fn rekey_at(&mut self, slot: ItemIndex, item: T, costs: &mut Costs) -> Result<T, T> {
+        BiHashMap::rekey_at(self, slot, item, costs)
+    }
+
+    fn clone(&self) -> Result<Self, TryReserveError>
+    where
+        T: Clone,
+        S: Clone,
+    {
+        self.copied()
+    }
+
+    fn shrink_to(&mut self, least: usize) -> Result<(), TryReserveError>
+    where
+        T: Drop,
+    {
+        BiHashMap::shrink_to(self, least)
     }
 
     fn grow(&mut self, more: usize, ahead: usize) -> Result<(), TryReserveError> {
@@ -127,4 +178,22 @@ impl<T: BiHashItem, S: BuildHasher> SlotMap for BiHashMap<T, S> {
     ghost lawful = { (IsEquivalence-key T.K1.eq T.key1 T.K1.Eq.laws, (IsEquivalence-key T.K2.eq T.key2 T.K2.Eq.laws, tt)) };
 
     ghost same_first = { λ x y same. rw same refl };
+}
+
+impl<T: BiHashItemMut, S: BuildHasher> StoresData for BiHashMap<T, S> {
+    type Data = T::Data;
+
+    ghost put = { T.put };
+
+    fn store_at(&mut self, slot: ItemIndex, data: T::Data)
+    where
+        T::Data: Drop,
+    {
+        *self.data_mut_at(slot) = data;
+    }
+
+    ghost keeps_keys = { λ x d. rw (
+      T.K1.Eq.laws.symm (T.key1 x) (T.key1 (T.put x d)) ∙ T.keeps_key1 x d,
+      T.K2.Eq.laws.symm (T.key2 x) (T.key2 (T.put x d)) ∙ T.keeps_key2 x d,
+    ) refl };
 }

@@ -2,13 +2,18 @@
 //!
 //! Made by tests/widths from crates/iddqd_bi/src/map/slot_map.rt: change that file.
 ghost use Rattle.std.specs.Prelude.{[], ◌∷◌, refl};
+ghost use Rattle.std.proofs.Common.{◌∙◌};
+ghost use Rattle.iddqd_store.specs.Map.{hash_of};
 ghost use Rattle.iddqd_store.specs.Rank.{agree, key_hash};
 ghost use Rattle.iddqd_store.proofs.MapLemmas.{IsEquivalence-key};
 
 use super::IdHashMap;
 use crate::error::Rejected;
-use crate::item::IdHashItem;
-use iddqd_store::{Costs, ItemIndex, ItemSet, Meter, Searched, SlotMap, TryReserveError, Vacancy};
+use crate::item::{IdHashItem, IdHashItemMut};
+use iddqd_store::{
+    Costs, FoundByHash, ItemIndex, ItemSet, Meter, Searched, SlotMap, StoresData, TryReserveError,
+    UpToThree, Vacancy,
+};
 use std::alloc::Global;
 use std::hash::{BuildHasher, Hash};
 
@@ -23,6 +28,8 @@ impl<T: IdHashItem, S: BuildHasher> SlotMap for IdHashMap<T, S> {
 
     type Places = Vacancy;
 
+    type Found = FoundByHash;
+
     type Taken = bool;
 
     type Rejected = Rejected<T>;
@@ -33,9 +40,13 @@ impl<T: IdHashItem, S: BuildHasher> SlotMap for IdHashMap<T, S> {
 
     ghost hashes = { λ s. key_hash T.key T.Key.hash_input S.BuildHasher S.Hasher.Hasher s ∷ [] };
 
+    ghost hash_of = { hash_of S.BuildHasher S.Hasher.Hasher };
+
     ghost first_key = { T.key };
 
     ghost spots = { λ at. at ∷ [] };
+
+    ghost searched = { λ found. found ∷ [] };
 
     ghost flags = { λ taken. taken ∷ [] };
 
@@ -72,14 +83,23 @@ impl<T: IdHashItem, S: BuildHasher> SlotMap for IdHashMap<T, S> {
     }
 
     #[inline(always)]
-    fn places(&self, item: &T, costs: &mut Costs) -> Result<Self::Places, Self::Taken> {
+    fn places(&self, item: &T, costs: &mut Costs) -> Result<Self::Places, Self::Found> {
         match IdHashMap::places(self, item, costs) {
             Searched::Vacant(at) => Ok(at),
-            Searched::Found(found) => {
-                let taken = found.slot().is_some();
-                Err(taken)
-            }
+            Searched::Found(found) => Err(found),
         }
+    }
+
+    fn found_slots(found: &Self::Found) -> UpToThree<ItemIndex> {
+        let slot = found.slot();
+        let mut slots = UpToThree::new();
+        slots.push_found(slot);
+        slots
+    }
+
+    fn taken(found: &Self::Found) -> Self::Taken {
+        let taken = found.slot().is_some();
+        taken
     }
 
     fn slot_of_all(&self, item: &T, costs: &mut Costs) -> Option<ItemIndex> {
@@ -98,6 +118,35 @@ impl<T: IdHashItem, S: BuildHasher> SlotMap for IdHashMap<T, S> {
 
     fn replace_at(&mut self, slot: ItemIndex, item: T) -> T {
         IdHashMap::replace_at(self, slot, item)
+    }
+
+    fn overwrite_at(
+        &mut self,
+        slot: ItemIndex,
+        item: T,
+        found: &Self::Found,
+        meter: &mut Meter,
+    ) -> T {
+        self.overwrite_one(slot, item, found, meter)
+    }
+
+    fn rekey_at(&mut self, slot: ItemIndex, item: T, costs: &mut Costs) -> Result<T, T> {
+        IdHashMap::rekey_at(self, slot, item, costs)
+    }
+
+    fn clone(&self) -> Result<Self, TryReserveError>
+    where
+        T: Clone,
+        S: Clone,
+    {
+        self.copied()
+    }
+
+    fn shrink_to(&mut self, least: usize) -> Result<(), TryReserveError>
+    where
+        T: Drop,
+    {
+        IdHashMap::shrink_to(self, least)
     }
 
     fn grow(&mut self, more: usize, ahead: usize) -> Result<(), TryReserveError> {
@@ -122,4 +171,21 @@ impl<T: IdHashItem, S: BuildHasher> SlotMap for IdHashMap<T, S> {
     ghost lawful = { (IsEquivalence-key T.Key.eq T.key T.Key.Eq.laws, tt) };
 
     ghost same_first = { λ x y same. rw same refl };
+}
+
+impl<T: IdHashItemMut, S: BuildHasher> StoresData for IdHashMap<T, S> {
+    type Data = T::Data;
+
+    ghost put = { T.put };
+
+    fn store_at(&mut self, slot: ItemIndex, data: T::Data)
+    where
+        T::Data: Drop,
+    {
+        *self.data_mut_at(slot) = data;
+    }
+
+    ghost keeps_keys = { λ x d. rw (
+        T.Key.Eq.laws.symm (T.key x) (T.key (T.put x d)) ∙ T.keeps_key x d
+        ) refl };
 }

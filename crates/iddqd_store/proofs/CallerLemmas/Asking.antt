@@ -97,10 +97,10 @@ module _ {T : Type 0} where
 
   -- an item x that was removed can be inserted again as y, with another key of one rank, if no member had that key; at
   -- the ranks before and after it y has the keys of x
-  pub none-clash_again : (first rest : Ranks T) (agree : T → T → Bool) → AreLawful (first ++ agree ∷ rest) → (old bag : List T) (x y : T)
+  pub none-conflicts_again : (first rest : Ranks T) (agree : T → T → Bool) → AreLawful (first ++ agree ∷ rest) → (old bag : List T) (x y : T)
       → IsSound (first ++ agree ∷ rest) old → IsPermutation old (x ∷ bag) → agrees first x y ≡ true → agrees rest x y ≡ true
       → list_any (agree y) old ≡ false → conflicts_of (first ++ agree ∷ rest) bag y ≡ []
-  none-clash_again first rest agree laws old bag x y sound taken before behind none =
+  none-conflicts_again first rest agree laws old bag x y sound taken before behind none =
       none-conflicts_of (first ++ agree ∷ rest) bag y
       (none_again first rest agree laws bag x y (IsSound-IsPermutation (first ++ agree ∷ rest) laws old (x ∷ bag) taken sound) before behind (none-left (agree y) old bag x taken none))
 

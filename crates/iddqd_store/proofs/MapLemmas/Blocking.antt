@@ -6,13 +6,13 @@ use Rattle.iddqd_store.specs.Map.{ConflictsAt, Map}
 use Rattle.iddqd_store.specs.Slots.{contents}
 use Rattle.iddqd_store.proofs.MapLemmas.Places.{stand_in}
 use Rattle.iddqd_store.proofs.MapLemmas.Rekeyed.{another_found, more_found}
-use Rattle.iddqd_store.proofs.SlotLemmas.Found.{clash_none}
+use Rattle.iddqd_store.proofs.SlotLemmas.Found.{none_conflict}
 use Rattle.iddqd_store.proofs.RankLemmas.Displaced.{gives_way}
 
 module _ {T S : Type 0} {ranks : Ranks T} {m : Map T S} {x : T} {found : List ℕ} (conflict : ConflictsAt ranks m x found) where
   -- there is one
   pub some_found : length found ≡ 0 → ⊥
-  some_found short = conflict.some (clash_none ranks m.slots x found conflict.found.items short)
+  some_found short = conflict.some (none_conflict ranks m.slots x found conflict.found.items short)
 
   -- if there is another slot than this one, an item there conflicts
   pub other_conflicts : {at slot : ℕ} {more : List ℕ} → found ≡ at ∷ more → at ≢ slot → conflicts_of ranks (contents (slice_set m.slots slot None)) x ≢ []

@@ -18,7 +18,7 @@ use Rattle.iddqd_store.proofs.BagLemmas.Sound.{IsPermutation-conflicting, same_f
 use Rattle.iddqd_store.proofs.BagLemmas.Unique.{any_listed, some_item}
 use Rattle.iddqd_store.proofs.MapLemmas.Storing.{live_found}
 use Rattle.iddqd_store.proofs.SlotLemmas.Entries.{IsDistinct-each_once, found_listing, held_none, held_some}
-use Rattle.iddqd_store.proofs.SlotLemmas.Found.{clash_none, clash_some}
+use Rattle.iddqd_store.proofs.SlotLemmas.Found.{none_conflict, some_conflict}
 
 module _ {T : Type 0} (slots : List (Option T)) where
   each_live : (tests : List (T → Bool)) (found : List (Option ℕ)) → AreFound tests slots found → AllByRecursion (λ at. IfSome at (IsLive slots)) found
@@ -44,13 +44,13 @@ module _ {T S : Type 0} {agree : T → T → Bool} (laws : IsEquivalence agree) 
   -- if a slot is found, the item conflicts
   pub conflict_by : list_any is_some found ≡ true → ConflictsAt ranks m x (each_once found)
   conflict_by some = record {
-    some = clash_some ranks m.slots x (each_once found) conflicts_found.items conflicts_found.live (λ short. held_some m.slots (tests_of ranks x) found are some (none_at m.slots (each_once found) short));
+    some = some_conflict ranks m.slots x (each_once found) conflicts_found.items conflicts_found.live (λ short. held_some m.slots (tests_of ranks x) found are some (none_at m.slots (each_once found) short));
     found = conflicts_found;
   }
 
   -- if no slot is found, nothing conflicts with it
   pub free_by : list_any is_some found ≡ false → conflicts_of ranks (bag m) x ≡ []
-  free_by none = clash_none ranks m.slots x [] (sym (held_none m.slots found none) ∙ conflicts_found.items) refl
+  free_by none = none_conflict ranks m.slots x [] (sym (held_none m.slots found none) ∙ conflicts_found.items) refl
 
   -- if the search says which of both it was, so do these
   pub free_on : {F V : Type 0} (r : Searched F V) → OnVacant r (list_any is_some found ≡ false) → OnVacant r (conflicts_of ranks (bag m) x ≡ [])

@@ -127,17 +127,17 @@ module _ {T : Type 0} where
 
 module _ {T : Type 0} where
   -- if no conflicting slot is found, nothing conflicts
-  pub clash_none : (ranks : Ranks T) (slots : List (Option T)) (x : T) (numbers : List ℕ) → items_at slots numbers ≡ conflicting ranks (contents slots) x
+  pub none_conflict : (ranks : Ranks T) (slots : List (Option T)) (x : T) (numbers : List ℕ) → items_at slots numbers ≡ conflicting ranks (contents slots) x
       → length numbers ≡ 0 → conflicts_of ranks (contents slots) x ≡ []
-  clash_none ranks slots x [] is short = sym (same_from_short [] _
+  none_conflict ranks slots x [] is short = sym (same_from_short [] _
       (subst (λ l. IsPermutation l (conflicts_of ranks (contents slots) x)) (sym is) (IsPermutation-conflicting ranks (contents slots) x)) (omega arith))
-  clash_none ranks slots x (a ∷ numbers) is short = absurd (omega arith)
+  none_conflict ranks slots x (a ∷ numbers) is short = absurd (omega arith)
 
   -- if a slot is found, something conflicts
-  pub clash_some : (ranks : Ranks T) (slots : List (Option T)) (x : T) (numbers : List ℕ) → items_at slots numbers ≡ conflicting ranks (contents slots) x
+  pub some_conflict : (ranks : Ranks T) (slots : List (Option T)) (x : T) (numbers : List ℕ) → items_at slots numbers ≡ conflicting ranks (contents slots) x
       → All (IsLive slots) numbers → length numbers ≢ 0 → conflicts_of ranks (contents slots) x ≢ []
-  clash_some ranks slots x [] is live some none = some refl
-  clash_some ranks slots x (a ∷ numbers) is live some none = by_slot (get slots a) refl (All-head (IsLive slots) a numbers live)
+  some_conflict ranks slots x [] is live some none = some refl
+  some_conflict ranks slots x (a ∷ numbers) is live some none = by_slot (get slots a) refl (All-head (IsLive slots) a numbers live)
     where
       same : IsPermutation (items_at slots (a ∷ numbers)) []
       same = subst (λ l. IsPermutation (items_at slots (a ∷ numbers)) l) none (subst (λ l. IsPermutation l (conflicts_of ranks (contents slots) x)) (sym is) (IsPermutation-conflicting ranks (contents slots) x))

@@ -20,12 +20,12 @@ abbrev pub empty_state : {T : Type 0} → State T
 empty_state = record { items = []; capacity = 0 }
 
 module _ {T : Type 0} where
-  -- The items of the list are inserted one by one with `over`, and after each of them the items fit the capacity.
+  -- The items of the list are inserted one by one with `with_item`, and after each of them the items fit the capacity.
   -- Example: With the list (4, 40), (4, 50) the bag needs the capacity 4.
   abbrev pub FitsOnTheWay : Ranks T → List T → List T → ℕ → Type 0
   FitsOnTheWay ranks bag xs capacity = (n : ℕ) → length (with_items ranks bag (take n xs)) ≤ capacity
 
-  -- The items of the list were inserted one by one, each with `over`. The capacity is no lower, and was enough at each
+  -- The items of the list were inserted one by one, each with `with_item`. The capacity is no lower, and was enough at each
   -- step.
   -- Example: With the list (1, 20), (3, 40) the bag becomes (3, 40), (1, 20).
   abbrev pub ExtendsTo : Ranks T → State T → List T → State T → Type 0

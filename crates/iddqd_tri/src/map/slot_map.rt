@@ -2,13 +2,18 @@
 //!
 //! Made by tests/widths from crates/iddqd_bi/src/map/slot_map.rt: change that file.
 ghost use Rattle.std.specs.Prelude.{[], ◌∷◌, refl};
+ghost use Rattle.std.proofs.Common.{◌∙◌};
+ghost use Rattle.iddqd_store.specs.Map.{hash_of};
 ghost use Rattle.iddqd_store.specs.Rank.{agree, key_hash};
 ghost use Rattle.iddqd_store.proofs.MapLemmas.{IsEquivalence-key};
 
 use super::TriHashMap;
 use crate::error::Rejected;
-use crate::item::TriHashItem;
-use iddqd_store::{Costs, ItemIndex, ItemSet, Meter, Searched, SlotMap, TryReserveError, Vacancy};
+use crate::item::{TriHashItem, TriHashItemMut};
+use iddqd_store::{
+    Costs, FoundByHash, ItemIndex, ItemSet, Meter, Searched, SlotMap, StoresData, TryReserveError,
+    UpToThree, Vacancy,
+};
 use std::alloc::Global;
 use std::hash::{BuildHasher, Hash};
 
@@ -23,6 +28,8 @@ impl<T: TriHashItem, S: BuildHasher> SlotMap for TriHashMap<T, S> {
 
     type Places = (Vacancy, Vacancy, Vacancy);
 
+    type Found = (FoundByHash, FoundByHash, FoundByHash);
+
     type Taken = (bool, bool, bool);
 
     type Rejected = Rejected<T>;
@@ -35,9 +42,13 @@ impl<T: TriHashItem, S: BuildHasher> SlotMap for TriHashMap<T, S> {
         ∷ key_hash T.key2 T.K2.hash_input S.BuildHasher S.Hasher.Hasher s
         ∷ key_hash T.key3 T.K3.hash_input S.BuildHasher S.Hasher.Hasher s ∷ [] };
 
+    ghost hash_of = { hash_of S.BuildHasher S.Hasher.Hasher };
+
     ghost first_key = { T.key1 };
 
     ghost spots = { λ at. at.0 ∷ at.1 ∷ at.2 ∷ [] };
+
+    ghost searched = { λ found. found.0 ∷ found.1 ∷ found.2 ∷ [] };
 
     ghost flags = { λ taken. taken.0 ∷ taken.1 ∷ taken.2 ∷ [] };
 
@@ -74,16 +85,29 @@ impl<T: TriHashItem, S: BuildHasher> SlotMap for TriHashMap<T, S> {
     }
 
     #[inline(always)]
-    fn places(&self, item: &T, costs: &mut Costs) -> Result<Self::Places, Self::Taken> {
+    fn places(&self, item: &T, costs: &mut Costs) -> Result<Self::Places, Self::Found> {
         match TriHashMap::places(self, item, costs) {
             Searched::Vacant(at) => Ok(at),
-            Searched::Found(found) => {
-                let taken1 = found.0.slot().is_some();
-                let taken2 = found.1.slot().is_some();
-                let taken3 = found.2.slot().is_some();
-                Err((taken1, taken2, taken3))
-            }
+            Searched::Found(found) => Err(found),
         }
+    }
+
+    fn found_slots(found: &Self::Found) -> UpToThree<ItemIndex> {
+        let slot1 = found.0.slot();
+        let slot2 = found.1.slot();
+        let slot3 = found.2.slot();
+        let mut slots = UpToThree::new();
+        slots.push_found(slot1);
+        slots.push_found(slot2);
+        slots.push_found(slot3);
+        slots
+    }
+
+    fn taken(found: &Self::Found) -> Self::Taken {
+        let taken1 = found.0.slot().is_some();
+        let taken2 = found.1.slot().is_some();
+        let taken3 = found.2.slot().is_some();
+        (taken1, taken2, taken3)
     }
 
     fn slot_of_all(&self, item: &T, costs: &mut Costs) -> Option<ItemIndex> {
@@ -103,6 +127,35 @@ impl<T: TriHashItem, S: BuildHasher> SlotMap for TriHashMap<T, S> {
 
     fn replace_at(&mut self, slot: ItemIndex, item: T) -> T {
         TriHashMap::replace_at(self, slot, item)
+    }
+
+    fn overwrite_at(
+        &mut self,
+        slot: ItemIndex,
+        item: T,
+        found: &Self::Found,
+        meter: &mut Meter,
+    ) -> T {
+        self.overwrite_one(slot, item, found, meter)
+    }
+
+    fn rekey_at(&mut self, slot: ItemIndex, item: T, costs: &mut Costs) -> Result<T, T> {
+        TriHashMap::rekey_at(self, slot, item, costs)
+    }
+
+    fn clone(&self) -> Result<Self, TryReserveError>
+    where
+        T: Clone,
+        S: Clone,
+    {
+        self.copied()
+    }
+
+    fn shrink_to(&mut self, least: usize) -> Result<(), TryReserveError>
+    where
+        T: Drop,
+    {
+        TriHashMap::shrink_to(self, least)
     }
 
     fn grow(&mut self, more: usize, ahead: usize) -> Result<(), TryReserveError> {
@@ -138,4 +191,23 @@ impl<T: TriHashItem, S: BuildHasher> SlotMap for TriHashMap<T, S> {
     ) };
 
     ghost same_first = { λ x y same. rw same refl };
+}
+
+impl<T: TriHashItemMut, S: BuildHasher> StoresData for TriHashMap<T, S> {
+    type Data = T::Data;
+
+    ghost put = { T.put };
+
+    fn store_at(&mut self, slot: ItemIndex, data: T::Data)
+    where
+        T::Data: Drop,
+    {
+        *self.data_mut_at(slot) = data;
+    }
+
+    ghost keeps_keys = { λ x d. rw (
+      T.K1.Eq.laws.symm (T.key1 x) (T.key1 (T.put x d)) ∙ T.keeps_key1 x d,
+      T.K2.Eq.laws.symm (T.key2 x) (T.key2 (T.put x d)) ∙ T.keeps_key2 x d,
+      T.K3.Eq.laws.symm (T.key3 x) (T.key3 (T.put x d)) ∙ T.keeps_key3 x d,
+    ) refl };
 }

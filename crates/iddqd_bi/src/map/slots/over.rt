@@ -4,7 +4,7 @@ ghost use Rattle.iddqd_store.specs.Bag.{conflicts_of, conflicting, with_item};
 ghost use Rattle.iddqd_store.specs.Map.{bag, ListsConflicts, PutsAt};
 ghost use Rattle.iddqd_store.specs.Rank.All.{ArePlacesOf, AreHashed, HaveHashes, PlacingCosts, hashes_of};
 ghost use Rattle.iddqd_store.specs.Rank.{rehash_walks, walks_within, merge_two_walks};
-ghost use Rattle.iddqd_store.specs.Slots.{get, contents, IsLive};
+ghost use Rattle.iddqd_store.specs.Slots.{get, contents, IsLive, Updates};
 ghost use Rattle.iddqd_store.specs.Slots.Found.{each_once};
 
 use super::super::BiHashMap;
@@ -61,6 +61,7 @@ impl<T: BiHashItem, S: BuildHasher> BiHashMap<T, S> {
     pub(crate) fn rekey_at(&mut self, slot: ItemIndex, item: T, costs: &mut Costs) -> Result<T, T>
         requires { IsLive self.old.slots slot }
         ensures value { IfOk result (λ x. get self.old.slots slot ≡ Some x) }
+        ensures updates { OnOk result (Updates self.old.slots self.new.slots slot (Some item)) }
         ensures puts_at { OnOk result (PutsAt ⟦<T as Ranked>⟧.ranks self.old slot item
             (item ∷ contents (slice_set self.old.slots slot None)) self.new) }
         ensures handed_back { IfErr result (λ x. x ≡ item) }
@@ -103,6 +104,7 @@ impl<T: BiHashItem, S: BuildHasher> BiHashMap<T, S> {
         requires spots { ArePlacesOf
             (⟦<T as Hashed<S>>⟧.hashes self.old.builder) (bag self.old) item (at.0 ∷ at.1 ∷ []) }
         ensures value { get self.old.slots slot ≡ Some result }
+        ensures updates { Updates self.old.slots self.new.slots slot (Some item) }
         ensures puts_at { PutsAt ⟦<T as Ranked>⟧.ranks self.old slot item
             (item ∷ contents (slice_set self.old.slots slot None)) self.new }
         ensures costs { meter.new ≤ meter.old + walks_within (length (bag self.old))
@@ -121,7 +123,7 @@ impl<T: BiHashItem, S: BuildHasher> BiHashMap<T, S> {
 
     /// Puts an item into the slot of another, and returns the latter. If both have the same hash at a rank, the pair in its
     /// table stays, and no cell of it is probed. Otherwise the call walks through the table twice.
-    fn overwrite_one(
+    pub(crate) fn overwrite_one(
         &mut self,
         slot: ItemIndex,
         item: T,
@@ -135,6 +137,7 @@ impl<T: BiHashItem, S: BuildHasher> BiHashMap<T, S> {
         requires hashed { AreHashed
             (⟦<T as Hashed<S>>⟧.hashes self.old.builder) self.old.slots (found.now.0 ∷ found.now.1 ∷ []) }
         ensures value { get self.old.slots slot ≡ Some result }
+        ensures updates { Updates self.old.slots self.new.slots slot (Some item) }
         ensures puts_at { PutsAt ⟦<T as Ranked>⟧.ranks self.old slot item
             (item ∷ contents (slice_set self.old.slots slot None)) self.new }
         ensures costs { meter.new ≤ meter.old + walks_within (length (bag self.old))

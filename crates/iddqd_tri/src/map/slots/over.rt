@@ -6,7 +6,7 @@ ghost use Rattle.iddqd_store.specs.Bag.{conflicts_of, conflicting, with_item};
 ghost use Rattle.iddqd_store.specs.Map.{bag, ListsConflicts, PutsAt};
 ghost use Rattle.iddqd_store.specs.Rank.All.{ArePlacesOf, AreHashed, HaveHashes, PlacingCosts, hashes_of};
 ghost use Rattle.iddqd_store.specs.Rank.{rehash_walks, walks_within, merge_two_walks};
-ghost use Rattle.iddqd_store.specs.Slots.{get, contents, IsLive};
+ghost use Rattle.iddqd_store.specs.Slots.{get, contents, IsLive, Updates};
 ghost use Rattle.iddqd_store.specs.Slots.Found.{each_once};
 
 mod three;
@@ -78,6 +78,7 @@ impl<T: TriHashItem, S: BuildHasher> TriHashMap<T, S> {
     pub(crate) fn rekey_at(&mut self, slot: ItemIndex, item: T, costs: &mut Costs) -> Result<T, T>
         requires { IsLive self.old.slots slot }
         ensures value { IfOk result (λ x. get self.old.slots slot ≡ Some x) }
+        ensures updates { OnOk result (Updates self.old.slots self.new.slots slot (Some item)) }
         ensures puts_at { OnOk result (PutsAt ⟦<T as Ranked>⟧.ranks self.old slot item
             (item ∷ contents (slice_set self.old.slots slot None)) self.new) }
         ensures handed_back { IfErr result (λ x. x ≡ item) }
@@ -121,6 +122,7 @@ impl<T: TriHashItem, S: BuildHasher> TriHashMap<T, S> {
         requires spots { ArePlacesOf
             (⟦<T as Hashed<S>>⟧.hashes self.old.builder) (bag self.old) item (at.0 ∷ at.1 ∷ at.2 ∷ []) }
         ensures value { get self.old.slots slot ≡ Some result }
+        ensures updates { Updates self.old.slots self.new.slots slot (Some item) }
         ensures puts_at { PutsAt ⟦<T as Ranked>⟧.ranks self.old slot item
             (item ∷ contents (slice_set self.old.slots slot None)) self.new }
         ensures costs { meter.new ≤ meter.old + walks_within (length (bag self.old))
@@ -144,7 +146,7 @@ impl<T: TriHashItem, S: BuildHasher> TriHashMap<T, S> {
 
     /// Puts an item into the slot of another, and returns the latter. If both have the same hash at a rank, the pair in
     /// its table stays, and no cell of it is probed. Otherwise the call walks through the table twice.
-    fn overwrite_one(
+    pub(crate) fn overwrite_one(
         &mut self,
         slot: ItemIndex,
         item: T,
@@ -159,6 +161,7 @@ impl<T: TriHashItem, S: BuildHasher> TriHashMap<T, S> {
         requires hashed { AreHashed
             (⟦<T as Hashed<S>>⟧.hashes self.old.builder) self.old.slots (found.now.0 ∷ found.now.1 ∷ found.now.2 ∷ []) }
         ensures value { get self.old.slots slot ≡ Some result }
+        ensures updates { Updates self.old.slots self.new.slots slot (Some item) }
         ensures puts_at { PutsAt ⟦<T as Ranked>⟧.ranks self.old slot item
             (item ∷ contents (slice_set self.old.slots slot None)) self.new }
         ensures costs { meter.new ≤ meter.old + walks_within (length (bag self.old))

@@ -1,5 +1,4 @@
-use Rattle.std.proofs.Common.{◌≡◌, ◌∷◌, ◌++◌, ◌∙◌, [], false, rules, sym}
-use Rattle.std.specs.List.{list_any}
+use Rattle.std.proofs.Common.{◌∷◌, ◌++◌, [], rules}
 use Rattle.std.proofs.lemmas.List.{append_assoc, map-append}
 use Rattle.std.proofs.lemmas.List.Elements.{filter-append}
 use Rattle.iddqd_store.specs.Map.{bag}

@@ -1,10 +1,10 @@
--- Made by tests/widths from crates/iddqd_bi/proofs/map/BiHashMap/clone/Answers.antt: change that file.
+-- Made by tests/widths from crates/iddqd_bi/proofs/map/BiHashMap/copied/Answers.antt: change that file.
 use Rattle.std.proofs.Common.{refl, sym, ◌∙◌, ap}
 use Rattle.iddqd_store.specs.Map.{hash_of}
 use Rattle.iddqd_store.proofs.RankLemmas.Copied.{is_copy}
 use Rattle.iddqd_store.proofs.RankLemmas.Invariant.{IsIndexed-copy}
 use Rattle.iddqd_id.proofs.MapLemmas.{AreLawful-ranks}
-use Rattle.iddqd_id.proofs.map.IdHashMap.clone.Goals as goal
+use Rattle.iddqd_id.proofs.map.IdHashMap.copied.Goals as goal
 
 pub invariant_of-copy : goal.invariant_of-copy
 invariant_of-copy g c =

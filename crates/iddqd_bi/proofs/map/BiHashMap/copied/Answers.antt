@@ -3,7 +3,7 @@ use Rattle.iddqd_store.specs.Map.{hash_of}
 use Rattle.iddqd_store.proofs.RankLemmas.Copied.{is_copy}
 use Rattle.iddqd_store.proofs.RankLemmas.Invariant.{IsIndexed-copy}
 use Rattle.iddqd_bi.proofs.MapLemmas.{AreLawful-ranks}
-use Rattle.iddqd_bi.proofs.map.BiHashMap.clone.Goals as goal
+use Rattle.iddqd_bi.proofs.map.BiHashMap.copied.Goals as goal
 
 pub invariant_of-copy : goal.invariant_of-copy
 invariant_of-copy g c =
