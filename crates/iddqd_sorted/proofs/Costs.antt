@@ -6,7 +6,7 @@ use Rattle.iddqd_store.specs.SlotMap.{SearchesEach, SearchesFirst}
 use Rattle.iddqd_store.proofs.RankLemmas.Costs.{SearchCosts-room}
 
 module _ {T : Type 0} (bag : List T) (less room : ℕ) (below : less ≤ room) where
-  AreSearched-room : (hashes : List (T → ℕ)) (hs : List ℕ) (answers : List (Option ℕ)) (before after : Costs) → AreSearched hashes bag room hs answers before after → AreSearched hashes bag less hs answers before after
+  pub AreSearched-room : (hashes : List (T → ℕ)) (hs : List ℕ) (answers : List (Option ℕ)) (before after : Costs) → AreSearched hashes bag room hs answers before after → AreSearched hashes bag less hs answers before after
   AreSearched-room [] [] [] before after all = all
   AreSearched-room [] [] (r ∷ rs) before after all = absurd all
   AreSearched-room [] (h ∷ hs) rs before after all = absurd all

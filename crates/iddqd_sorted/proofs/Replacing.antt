@@ -16,7 +16,7 @@ module _ {T : Type 0} where
   pub fewer : (p : T → Bool) (xs : List T) (f : T) → f ∷ [] ≡ filter p xs → length (filter (λ x. not (p x)) xs) < length xs
   fewer p xs f only = omega (arith, length_permutation _ _ (IsPermutation-only p xs f only))
 
-  same_conflicts : (ranks : Ranks T) → AreLawful ranks → (x y : T) → agrees ranks x y ≡ true → (z : T) → do_conflict ranks x z ≡ do_conflict ranks y z
+  pub same_conflicts : (ranks : Ranks T) → AreLawful ranks → (x y : T) → agrees ranks x y ≡ true → (z : T) → do_conflict ranks x z ≡ do_conflict ranks y z
   same_conflicts [] laws x y same z = refl
   same_conflicts (agree ∷ ranks) laws x y same z =
       let both = and_parts (agree x y) (agrees ranks x y) same in

@@ -1,5 +1,5 @@
 -- What a contract sees of a hash map with an order. In the examples an item is a pair of its first key and its sort key.
-use Rattle.std.specs.Prelude.{◌≡◌, ℕ, ◌+◌, ◌<◌, ◌≤◌, Bool, true, ◌&&◌, List, [], ◌∷◌, ◌++◌, Option, filter, length, refl, Result, IsErr, OnOk, OnErr}
+use Rattle.std.specs.Prelude.{◌≡◌, ℕ, ◌+◌, ◌*◌, ◌<◌, ◌≤◌, Bool, max, true, ◌&&◌, List, [], ◌∷◌, ◌++◌, Option, filter, length, refl, Result, IsErr, OnOk, OnErr}
 use Rattle.std.specs.Coded.{Coded, code_by, coded×, coded_ℕ, coded_list, coded_option}
 use Rattle.std.specs.Ordering.{then_cmp, on, is_lt, is_le, is_gt, is_ge}
 use Rattle.std.specs.declared.cmp.Ordering.{Ordering}
@@ -92,14 +92,17 @@ module _ {T K : Type 0} (sort : T → K) (cmp : K → K → Ordering) where
   within low high x = is_from low x && is_to high x
 
 -- After `Ok`, `more` items fit beside those that are there. The call fails only if they did not fit before it, and it always
--- fails if no map can hold them. The capacity grows only if they did not fit, and the builder stays.
--- Example: With 3 items and the capacity 7, 4 more fit and nothing changes, and for 5 more the capacity has to be 8 at least.
+-- fails if no map can hold them. The capacity grows only if they did not fit, and then to no more than is asked for, or twice
+-- what it was, or 4. The builder stays.
+-- Example: With 3 items and the capacity 7, 4 more fit and nothing changes, and for 5 more the capacity has to be 8 at least,
+-- and 14 at most.
 pub record MakesRoom {T K S A E : Type 0} (old : SortedValue T K S) (more : ℕ) (result : Result A E) (new : SortedValue T K S) : Type 0 where
   pub room : OnOk result (length (items old) + more ≤ new.capacity)
   pub reason : OnErr result (old.capacity < length (items old) + more)
   pub past : most_room < length (items old) + more → IsErr result
   pub no_less_room : old.capacity ≤ new.capacity
   pub same_room : length (items old) + more ≤ old.capacity → new.capacity ≡ old.capacity
+  pub most : new.capacity ≤ max (length (items old) + more) (max (2 * old.capacity) 4)
   pub same_builder : new.builder ≡ old.builder
 
 -- For each test that tells what the closure returns at an item, where no call changes the closure `f`, `kept` lists the items that

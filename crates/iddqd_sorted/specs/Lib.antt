@@ -1,4 +1,9 @@
+pub mod Batches
 pub mod Entries
 pub mod Inserts
 pub mod Items
+pub mod Keyed
 pub mod Ordered
+pub mod Overwriting
+pub mod Settled
+pub mod Walks

@@ -1,10 +1,24 @@
 //! An entry of the order.
+ghost use Rattle.std.specs.Prelude.{◌≡◌, ⊤};
+
 use iddqd_store::ItemIndex;
+use std::alloc::AllocError;
 
 /// An item in the order: its sort key, and the slot in which it is. The copy of the sort key saves a search from reading the
 /// items: it reads one only where sort keys are equal.
-#[derive(Clone, Copy)]
+#[derive(Copy)]
 pub(crate) struct Entry<K> {
     pub(crate) sort_key: K,
     pub(crate) slot: ItemIndex,
+}
+
+/// A clone is a copy.
+impl<K: Copy> Clone for Entry<K> {
+    ghost is_clone = { λ e c. c ≡ e };
+
+    ghost is_infallible = { λ _. ⊤ };
+
+    fn clone(&self) -> Result<Self, AllocError> {
+        Ok(*self)
+    }
 }

@@ -41,7 +41,8 @@ impl<'a, T: Sortable> Iter<'a, T> {
         entries: iddqd_order::Iter<'a, Entry<T::SortKey>>,
     ) -> Self
         requires { All (λ e. IsLive items.now.slots e.slot) entries }
-        ensures { result ≡ items_in items.now.slots entries.entry }
+        ensures gives { result ≡ items_in items.now.slots entries.entry }
+        ensures as_many { length result ≡ length entries.entry }
     {
         Iter { items, entries }
     }

@@ -3,11 +3,13 @@
 
 mod compare;
 mod entry;
+mod error;
 mod item;
 mod iter;
 mod map;
 mod widths;
 
+pub use error::ExtendUniqueError;
 pub use item::Sortable;
 pub use iter::Iter;
 pub use map::Sorted;

@@ -5,18 +5,28 @@ use iddqd_order::Blocks;
 use iddqd_store::SlotMap;
 use std::marker::Model;
 
+mod batch;
 mod build;
 mod capacity;
+mod clone;
 mod compare;
 mod emptied;
 mod ends;
+mod extend;
+mod extend_unique;
 mod insert;
 mod inside;
 mod iterate;
+mod overwrite;
 mod places;
 mod range;
+pub(crate) mod rekey;
+mod remove;
 mod replace;
 mod retain;
+mod settle;
+mod shrink;
+mod update;
 
 /// A hash map that also lists its items in ascending order of their sort keys, and those of one sort key in ascending order of
 /// their first keys.

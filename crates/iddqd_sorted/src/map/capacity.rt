@@ -1,6 +1,7 @@
 //! How many items there are and how many fit, and growing.
-ghost use Rattle.std.specs.Prelude.{[], ◌≡◌, ◌<◌, ◌≤◌, ◌^◌, ◌==◌, length, OnOk, OnErr};
+ghost use Rattle.std.specs.Prelude.{[], ◌≡◌, ◌+◌, ◌<◌, ◌≤◌, ◌==◌, length, min, IsErr, OnOk, OnErr};
 ghost use Rattle.iddqd_store.specs.Bag.{IsSound};
+ghost use Rattle.iddqd_store.specs.Table.Limit.{most_room};
 ghost use Rattle.iddqd_sorted.specs.Items.{items, by_sort, MakesRoom};
 ghost use Rattle.iddqd_sorted.specs.Ordered.{IsAscending};
 
@@ -40,7 +41,8 @@ where
     /// Reserves capacity for this many more items. If they fit already, the call allocates no memory. It compares no key.
     ///
     /// The call fails if an allocation fails, or if the number of items would be too large for memory. Then the map is as before,
-    /// but the map inside or the order may have more room, which serves a later call.
+    /// but the map inside or the order may have more room, which serves a later call. The capacity grows to no more than is asked
+    /// for, or twice what it was, or 4. Room that the order has beyond that goes back.
     pub fn reserve(&mut self, more: usize) -> Result<(), TryReserveError>
         ensures items { items self.new ≡ items self.old }
         ensures room { MakesRoom self.old more result self.new }
@@ -70,14 +72,33 @@ where
         self.order.clear();
     }
 
-    /// Reserves capacity for this many more items, with tables for at most `ahead` items more. What bounds the capacity grows
-    /// last: so if a step fails, that part is as before, and the capacity with it.
+    /// Reserves capacity for this many more items, with tables for at most `ahead` items more. What the order has beyond the most
+    /// that a call gives goes back.
     #[cold]
     #[inline(never)]
     pub(super) fn grow(&mut self, more: usize, ahead: usize) -> Result<(), TryReserveError>
         ensures slots { self.new.slots ≡ self.old.slots }
         ensures blocks { self.new.blocks ≡ self.old.blocks }
         ensures room { MakesRoom self.old more result self.new }
+        ensures unchanged { OnErr result (self.new ≡ self.old) }
+    {
+        let room = self.capacity();
+        self.grow_both(more, ahead)?;
+        self.lower_order((self.len() + more).max(room.saturating_mul(2)).max(4));
+        Ok(())
+    }
+
+    /// Reserves capacity in the map inside and in the order. What bounds the capacity grows last: so if a step fails, that part is
+    /// as before, and the capacity with it.
+    fn grow_both(&mut self, more: usize, ahead: usize) -> Result<(), TryReserveError>
+        ensures slots { self.new.slots ≡ self.old.slots }
+        ensures blocks { self.new.blocks ≡ self.old.blocks }
+        ensures room { OnOk result (length (items self.old) + more ≤ self.new.capacity) }
+        ensures reason { OnErr result (self.old.capacity < length (items self.old) + more) }
+        ensures past { most_room < length (items self.old) + more → IsErr result }
+        ensures no_less_room { self.old.capacity ≤ self.new.capacity }
+        ensures same_room { length (items self.old) + more ≤ self.old.capacity → self.new.capacity ≡ self.old.capacity }
+        ensures builder { self.new.builder ≡ self.old.builder }
         ensures unchanged { OnErr result (self.new ≡ self.old) }
     {
         if self.map.capacity() <= self.order.capacity() {
@@ -87,6 +108,19 @@ where
         self.map.grow(more, ahead)?;
         self.order.try_reserve(more)?;
         Ok(())
+    }
+
+    /// Lowers the capacity of the order to this one, if it is higher, and gives the memory back that it does not need.
+    fn lower_order(&mut self, most: usize)
+        requires { length (items self.old) ≤ most }
+        ensures slots { self.new.slots ≡ self.old.slots }
+        ensures blocks { self.new.blocks ≡ self.old.blocks }
+        ensures capacity { self.new.capacity ≡ min self.old.capacity most }
+        ensures builder { self.new.builder ≡ self.old.builder }
+    {
+        if most < self.order.capacity() {
+            self.order.lower_capacity(most);
+        }
     }
 
     /// Reserves capacity for one more item if the map is full. If that fails, the map is as before.

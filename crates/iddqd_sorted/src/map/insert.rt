@@ -1,20 +1,23 @@
 //! Inserting an item whose keys no other has.
-ghost use Rattle.std.specs.Prelude.{◌≡◌, ◌≢◌, ℕ, ◌+◌, ◌*◌, ◌^◌, ◌<◌, ◌≤◌, [], length, map, if◌then◌else◌, is_ok, IsOk, OnOk, OnErr, IfOk, IfErr};
+ghost use Rattle.std.specs.Prelude.{◌≡◌, ◌≢◌, ℕ, ◌+◌, ◌*◌, ◌^◌, ◌<◌, ◌≤◌, [], length, map, Some, None, if◌then◌else◌, is_some, is_ok, IsOk, OnOk, OnErr, IfOk, IfErr, IsPermutation};
 ghost use Rattle.std.specs.List.{insert};
-ghost use Rattle.iddqd_store.specs.Bag.{conflicts_of, tests_of};
+ghost use Rattle.iddqd_store.specs.Bag.{conflicting, conflicts_of, tests_of};
 ghost use Rattle.iddqd_store.specs.Rank.{walks_within};
-ghost use Rattle.iddqd_store.specs.Rank.All.{ArePlacesOf, PlacingCosts, hashes_of};
+ghost use Rattle.iddqd_store.specs.Rank.All.{AreHashed, ArePlacesOf, HaveHashes, PlacingCosts, hashes_of};
 ghost use Rattle.iddqd_store.specs.SlotMap.{AreAny, NoneTrue, SearchesEach};
+ghost use Rattle.iddqd_store.specs.Slots.{get, Updates};
+ghost use Rattle.iddqd_store.specs.Slots.Found.{StandAt, each_once};
 ghost use Rattle.iddqd_order.specs.Row.{position, IsPlace};
 ghost use Rattle.iddqd_sorted.specs.Inserts.{TellsWhy};
 ghost use Rattle.iddqd_sorted.specs.Items.{items, bag, by_sort, Gains};
+ghost use Rattle.iddqd_sorted.specs.Ordered.{IsAscending};
 ghost use Rattle.iddqd_order.specs.Search.{IsSplit};
 
 use super::Sorted;
 use crate::entry::Entry;
 use crate::item::Sortable;
 use iddqd_order::Place;
-use iddqd_store::{Costs, Meter, SlotMap};
+use iddqd_store::{Costs, ItemIndex, Meter, SlotMap};
 
 impl<M: SlotMap> Sorted<M>
 where
@@ -66,34 +69,81 @@ where
     {
         let at = match self.free_places(&item, costs) {
             Ok(at) => at,
-            Err(taken) => return Err(M::reject(item, taken)),
+            Err(found) => return Err(M::reject(item, M::taken(&found))),
         };
+        match self.insert_free(item, at, &mut costs.probed, meter) {
+            Ok(()) => Ok(()),
+            Err(item) => Err(M::reject(item, M::none_taken())),
+        }
+    }
+
+    /// Inserts an item with which nothing conflicts, at the places that the searches for its keys found. If the map is full and there
+    /// is no memory to grow, the item is handed back, and the map is as it was.
+    #[inline(always)]
+    pub(super) fn insert_free(
+        &mut self,
+        item: M::Item,
+        at: M::Places,
+        probed: &mut Meter,
+        meter: &mut Meter,
+    ) -> Result<(), M::Item>
+        requires free { conflicts_of M.ranks (items self.old) item ≡ [] }
+        requires free_slots { conflicts_of M.ranks (bag self.old) item ≡ [] }
+        requires places { ArePlacesOf (M.hashes self.old.builder) (bag self.old) item (M.spots at) }
+        ensures gains { OnOk result (Gains (by_sort M.Item.sort_key M.Item.SortKey.cmp M.first_key M.FirstKey.cmp) self.old item self.new) }
+        ensures granted { length (items self.old) < self.old.capacity → IsOk result }
+        ensures handed_back { IfErr result (λ x. x ≡ item) }
+        ensures unchanged { OnErr result (self.new ≡ self.old) }
+        ensures full { OnErr result (length (items self.old) ≡ self.old.capacity) }
+        ensures asked { (r : ℕ) → length (items self.old) < 4 ^ r → meter.new ≤ meter.old + (3 * r + 19) }
+        ensures probed { probed.new ≤ probed.old + walks_within (length (bag self.old))
+            (map (λ _. if is_ok result then 1 else 0) M.ranks) }
+    {
         let Err(place) = self.place_of(&item, meter) else {
             unreachable!()
         };
         if let Err(_) = self.make_room() {
-            return Err(M::reject(item, M::none_taken()));
+            return Err(item);
         }
-        self.insert_into(item, at, place, &mut costs.probed);
+        self.insert_into(item, at, place, probed);
         Ok(())
     }
 
-    /// Returns where an item is to be inserted in the tables, or which of its keys are taken.
+    /// Returns where an item is to be inserted in the tables, or what the searches for its keys found, if items conflict with it.
     #[inline(always)]
-    fn free_places(&self, item: &M::Item, costs: &mut Costs) -> Result<M::Places, M::Taken>
+    pub(super) fn free_places(
+        &self,
+        item: &M::Item,
+        costs: &mut Costs,
+    ) -> Result<M::Places, M::Found>
         ensures free { OnOk result (conflicts_of M.ranks (items self.now) item.now ≡ []) }
         ensures free_slots { OnOk result (conflicts_of M.ranks (bag self.now) item.now ≡ []) }
         ensures places { IfOk result (λ at. ArePlacesOf (M.hashes self.now.builder) (bag self.now) item.now (M.spots at)) }
-        ensures taken { IfErr result (λ keys. AreAny (M.flags keys) (tests_of M.ranks item.now) (items self.now)) }
+        ensures taken { IfErr result (λ found. AreAny (map (λ at. is_some at.slot) (M.searched found))
+            (tests_of M.ranks item.now) (items self.now)) }
         ensures conflict { OnErr result (conflicts_of M.ranks (items self.now) item.now ≢ []) }
-        ensures some { IfErr result (λ keys. NoneTrue (M.flags keys) → ⊥) }
+        ensures some { IfErr result (λ found. NoneTrue (map (λ at. is_some at.slot) (M.searched found)) → ⊥) }
+        ensures stand { IfErr result (λ found. StandAt self.now.slots (each_once (map (λ at. at.slot) (M.searched found)))
+            (conflicting M.ranks (bag self.now) item.now)) }
+        ensures hashes { IfErr result (λ found. HaveHashes (hashes_of (M.hashes self.now.builder) item.now) (M.searched found)) }
+        ensures hashed { IfErr result (λ found. AreHashed (M.hashes self.now.builder) self.now.slots (M.searched found)) }
+        ensures same_conflicts { OnErr result (conflicting M.ranks (bag self.now) item.now ≡ conflicting M.ranks (items self.now) item.now) }
+        ensures listed { IsPermutation (bag self.now) (items self.now) }
+        ensures ascending { IsAscending (by_sort M.Item.sort_key M.Item.SortKey.cmp M.first_key M.FirstKey.cmp) (items self.now) }
         ensures costs { SearchesEach (M.hashes self.now.builder) (bag self.now) self.now.capacity item.now costs.old costs.new }
     {
         self.map.places(item, costs)
     }
 
-    /// Inserts an item at the places that the searches for its keys and its sort key found. There has to be room.
-    fn insert_into(&mut self, item: M::Item, at: M::Places, place: Place, probed: &mut Meter)
+    /// Inserts an item at the places that the searches for its keys and its sort key found, and returns its slot. There has to be
+    /// room.
+    pub(super) fn insert_into(
+        &mut self,
+        item: M::Item,
+        at: M::Places,
+        place: Place,
+        probed: &mut Meter,
+    ) -> ItemIndex
         requires room { length (items self.old) < self.old.capacity }
         requires free { conflicts_of M.ranks (bag self.old) item ≡ [] }
         requires places { ArePlacesOf (M.hashes self.old.builder) (bag self.old) item (M.spots at) }
@@ -103,10 +153,13 @@ where
         ensures inserted { items self.new ≡ insert (items self.old) (position self.old.blocks place) item }
         ensures kept { (self.new.capacity ≡ self.old.capacity) × (self.new.builder ≡ self.old.builder) }
         ensures fits { length (items self.new) ≤ self.new.capacity }
+        ensures was_free { get self.old.slots result ≡ None }
+        ensures updates { Updates self.old.slots self.new.slots result (Some item) }
         ensures probed { probed.new ≤ probed.old + walks_within (length (bag self.old)) (map (λ _. 1) M.ranks) }
     {
         let sort_key = item.sort_key();
         let slot = self.map.insert_into(item, at, probed);
         let _ = self.order.insert(place, Entry { sort_key, slot });
+        slot
     }
 }

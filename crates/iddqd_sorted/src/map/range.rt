@@ -1,10 +1,11 @@
 //! Iterating over the items between two bounds of sort keys.
 ghost use Rattle.std.specs.Prelude.{◌≡◌, ℕ, ◌+◌, ◌*◌, ◌^◌, ◌<◌, ◌≤◌, not, filter, length};
-ghost use Rattle.std.specs.Map.Iter.{ShowsInOrder, deref};
+ghost use Rattle.std.specs.Map.Iter.{ShowsInOrder, ShowsInReverse, deref};
 ghost use Rattle.std.specs.Range.Bound.{bound_map};
 ghost use Rattle.iddqd_order.specs.Row.{position, IsPlace};
 ghost use Rattle.iddqd_sorted.specs.Items.{items, is_from, is_to, within};
 ghost use Rattle.iddqd_sorted.specs.Ordered.{IsCut};
+ghost use Rattle.iddqd_sorted.specs.Walks.{MeetsFirst, MeetsLast};
 
 use super::Sorted;
 use crate::item::Sortable;
@@ -21,7 +22,7 @@ where
     /// Iterates over the items whose sort keys are between two bounds, in their order, from both ends: `map.range(3..7)`,
     /// `map.range(..=now)`. A range that ends before it begins has no items.
     ///
-    /// Among fewer than `4 ^ r` items each bound compares at most `3 * r + 19` sort keys. The call allocates no memory.
+    /// Among fewer than `4 ^ r` items the call compares at most `6 * r + 38` sort keys. It allocates no memory.
     pub fn range<R: RangeBounds<<M::Item as Sortable>::SortKey>>(
         &self,
         range: R,
@@ -29,9 +30,32 @@ where
         ensures gives { R.has_bounds range → result
             ≡ filter (within M.Item.sort_key M.Item.SortKey.cmp (R.start_bound range) (R.end_bound range)) (items self.now) }
         ensures runs { ShowsInOrder (deref {X = M.Item}) }
+        ensures runs_back { ShowsInReverse (deref {X = M.Item}) }
+        ensures meets_first { MeetsFirst M.Item }
+        ensures meets_last { MeetsLast M.Item }
+        ensures countable { length result < 2 ^ 64 }
     {
-        let from = self.first_from(range.start_bound(), &mut Meter::new());
-        let to = self.first_past(range.end_bound(), &mut Meter::new());
+        self.range_counted(range, &mut Meter::new())
+    }
+
+    /// Iterates as `range` does, which calls it, and counts the comparisons.
+    #[inline(always)]
+    fn range_counted<R: RangeBounds<<M::Item as Sortable>::SortKey>>(
+        &self,
+        range: R,
+        meter: &mut Meter,
+    ) -> Iter<'_, M::Item>
+        ensures gives { R.has_bounds range → result
+            ≡ filter (within M.Item.sort_key M.Item.SortKey.cmp (R.start_bound range) (R.end_bound range)) (items self.now) }
+        ensures runs { ShowsInOrder (deref {X = M.Item}) }
+        ensures runs_back { ShowsInReverse (deref {X = M.Item}) }
+        ensures meets_first { MeetsFirst M.Item }
+        ensures meets_last { MeetsLast M.Item }
+        ensures countable { length result < 2 ^ 64 }
+        ensures asked { (r : ℕ) → length (items self.now) < 4 ^ r → meter.new ≤ meter.old + (6 * r + 38) }
+    {
+        let from = self.first_from(range.start_bound(), meter);
+        let to = self.first_past(range.end_bound(), meter);
         Iter::over(self.map.slots(), self.order.range(from, to))
     }
 

@@ -1,14 +1,19 @@
 //! Items with one key.
-ghost use Rattle.std.specs.Prelude.{◌≡◌, not, filter, option_copied, IfNone};
+ghost use Rattle.std.specs.Prelude.{◌≡◌, true, false, not, filter, option_copied, Some, IfNone, IfOk, IfErr, OnOk, OnErr};
+ghost use Rattle.std.specs.Fn.{FnOnceReturnsAt, FnOnceTakesAt};
 ghost use Rattle.std.specs.List.{list_any};
 ghost use Rattle.iddqd_store.specs.Bag.{IsOnly};
 ghost use Rattle.iddqd_id.specs.Keys.{has};
-ghost use Rattle.iddqd_sorted.specs.Items.{items};
+ghost use Rattle.iddqd_id.specs.Rekeyed.{TellsWhyNot, refused_item};
+ghost use Rattle.iddqd_sorted.specs.Items.{items, by_sort, with_item};
+ghost use Rattle.iddqd_sorted.specs.Keyed.{StoresOne};
 
 use crate::item::Sortable;
 use crate::map::Sorted;
-use iddqd_id::{DefaultHashBuilder, IdHashItem, IdHashMap};
-use iddqd_store::{Meter, Query};
+use crate::map::rekey::Refused;
+use iddqd_id::ranks::First;
+use iddqd_id::{DefaultHashBuilder, IdHashItem, IdHashItemMut, IdHashMap, NotReplaced, Ranked};
+use iddqd_store::{Costs, Meter, Query};
 use std::hash::{BuildHasher, Hash};
 
 /// A hash map of items with one key that also keeps them in the order of their sort keys.
@@ -34,8 +39,8 @@ where
 
     /// Removes the item with the key that the query stands for, and returns it, or `None` if there is none. The capacity stays.
     ///
-    /// Among fewer than `4 ^ r` items the call compares at most `3 * r + 19` sort keys. It hashes the query once, and each key of
-    /// the item once. It allocates no memory.
+    /// The call hashes the query and searches for it once, hashes each other key of the item once, and walks once through each
+    /// table. Among fewer than `4 ^ r` items it compares at most `3 * r + 19` sort keys. It allocates no memory.
     pub fn remove<Q: Query<T::Key>>(&mut self, query: Q) -> Option<T>
         ensures taken { IsOnly (has T.IdHashItem Q.stands_for query) (items self.old) result }
         ensures rest { items self.new ≡ filter (λ x. not (has T.IdHashItem Q.stands_for query x)) (items self.old) }
@@ -43,9 +48,61 @@ where
         ensures builder { self.new.builder ≡ self.old.builder }
         ensures absent { IfNone result (self.new ≡ self.old) }
     {
-        let found = self.inside().get(query)?;
-        let place = self.place_of_member(found, &mut Meter::new());
-        let (item, _) = self.remove_in(place, &mut Meter::new());
-        Some(item)
+        self.remove_by::<First, Q>(query, &mut Costs::new(), &mut Meter::new())
+    }
+
+    /// Puts an item in the place of the one with the key that the query stands for, and returns the latter. The new item may have
+    /// other keys and another sort key. The error has the new item, and the map is as it was: `Absent` if no item has the key asked
+    /// for, and `Duplicate` if some other item conflicts with the new one.
+    ///
+    /// The call hashes the query and searches for it once, and hashes each key of the new item and searches for it once. It also
+    /// hashes those keys of the old item that the new one does not have. Among fewer than `4 ^ r` items it compares at most
+    /// `6 * r + 40` sort keys. It allocates no memory, and the capacity stays.
+    pub fn rekey<Q: Query<T::Key>>(&mut self, query: Q, item: T) -> Result<T, NotReplaced<T>>
+        ensures found { IfOk result (λ x. IsOnly (has T.IdHashItem Q.stands_for query) (items self.old) (Some x)) }
+        ensures puts { OnOk result (items self.new ≡ with_item (by_sort T.sort_key T.SortKey.cmp T.key T.Key.cmp)
+            (filter (λ y. not (has T.IdHashItem Q.stands_for query y)) (items self.old)) item) }
+        ensures capacity { self.new.capacity ≡ self.old.capacity }
+        ensures builder { self.new.builder ≡ self.old.builder }
+        ensures handed_back { IfErr result (λ e. refused_item e ≡ item) }
+        ensures unchanged { OnErr result (self.new ≡ self.old) }
+        ensures reason { IfErr result (λ e. TellsWhyNot ⟦<T as Ranked>⟧.ranks
+            (has T.IdHashItem Q.stands_for query) (items self.old) item e) }
+    {
+        match self.rekey_by::<First, Q>(query, item, &mut Costs::new(), &mut Meter::new()) {
+            Ok(old) => Ok(old),
+            Err(Refused::Absent(item)) => Err(NotReplaced::Absent(item)),
+            Err(Refused::Conflict(item)) => Err(NotReplaced::Duplicate(item)),
+        }
+    }
+}
+
+impl<T: IdHashItemMut + Sortable, S: BuildHasher> Sorted<IdHashMap<T, S>>
+where
+    T::Key: Ord,
+{
+    /// Calls `f` with the item with the key that the query stands for, stores what it returns as the item's data, and moves the item
+    /// to the place of its sort key, which may have changed. Returns whether there is such an item. If not, `f` is not called, and
+    /// nothing changes.
+    ///
+    /// The call hashes the query and searches for it once. Among fewer than `4 ^ r` items it compares at most `6 * r + 40` sort keys.
+    /// It allocates no memory, and writes no table.
+    ///
+    /// `sessions.update(&key, |session| now)`
+    pub fn update<Q: Query<T::Key>, F: FnOnce(&T) -> T::Data>(&mut self, query: Q, f: F) -> bool
+    where
+        T::Data: Drop,
+        F: Drop,
+        requires { (x : T) → IsOnly (has T.IdHashItem Q.stands_for query) (items self.old) (Some x)
+            → FnOnceTakesAt F.FnOnce f x }
+        ensures any_found { result ≡ list_any (has T.IdHashItem Q.stands_for query) (items self.old) }
+        ensures stores { result ≡ true → StoresOne (FnOnceReturnsAt F.FnOnce f) T.put
+            (by_sort T.sort_key T.SortKey.cmp T.key T.Key.cmp)
+            (has T.IdHashItem Q.stands_for query) (items self.old) (items self.new) }
+        ensures absent { result ≡ false → self.new ≡ self.old }
+        ensures capacity { self.new.capacity ≡ self.old.capacity }
+        ensures builder { self.new.builder ≡ self.old.builder }
+    {
+        self.update_by::<First, Q, F>(query, f, &mut Costs::new(), &mut Meter::new())
     }
 }

@@ -1,14 +1,19 @@
 //! Items with three keys.
-ghost use Rattle.std.specs.Prelude.{◌≡◌, not, filter, option_copied, IfNone};
+ghost use Rattle.std.specs.Prelude.{◌≡◌, true, false, not, filter, option_copied, Some, IfNone, IfOk, IfErr, OnOk, OnErr};
+ghost use Rattle.std.specs.Fn.{FnOnceReturnsAt, FnOnceTakesAt};
 ghost use Rattle.std.specs.List.{list_any};
 ghost use Rattle.iddqd_store.specs.Bag.{IsOnly};
 ghost use Rattle.iddqd_tri.specs.Keys.{has1, has2, has3};
-ghost use Rattle.iddqd_sorted.specs.Items.{items};
+ghost use Rattle.iddqd_tri.specs.Rekeyed.{TellsWhyNot, refused_item};
+ghost use Rattle.iddqd_sorted.specs.Items.{items, by_sort, with_item};
+ghost use Rattle.iddqd_sorted.specs.Keyed.{StoresOne};
 
 use crate::item::Sortable;
 use crate::map::Sorted;
-use iddqd_store::{Meter, Query};
-use iddqd_tri::{DefaultHashBuilder, TriHashItem, TriHashMap};
+use crate::map::rekey::Refused;
+use iddqd_store::{Costs, Meter, Query};
+use iddqd_tri::ranks::{First, Second, Third};
+use iddqd_tri::{DefaultHashBuilder, NotReplaced, Ranked, TriHashItem, TriHashItemMut, TriHashMap};
 use std::hash::{BuildHasher, Hash};
 
 /// A hash map of items with three keys that also keeps them in the order of their sort keys.
@@ -62,8 +67,8 @@ where
 
     /// Removes the item with the first key that the query stands for, and returns it, or `None` if there is none. The capacity stays.
     ///
-    /// Among fewer than `4 ^ r` items the call compares at most `3 * r + 19` sort keys. It hashes the query once, and each key of
-    /// the item once. It allocates no memory.
+    /// The call hashes the query and searches for it once, hashes each other key of the item once, and walks once through each
+    /// table. Among fewer than `4 ^ r` items it compares at most `3 * r + 19` sort keys. It allocates no memory.
     pub fn remove1<Q: Query<T::K1>>(&mut self, query: Q) -> Option<T>
         ensures taken { IsOnly (has1 T.TriHashItem Q.stands_for query) (items self.old) result }
         ensures rest { items self.new ≡ filter (λ x. not (has1 T.TriHashItem Q.stands_for query x)) (items self.old) }
@@ -71,16 +76,13 @@ where
         ensures builder { self.new.builder ≡ self.old.builder }
         ensures absent { IfNone result (self.new ≡ self.old) }
     {
-        let found = self.inside().get1(query)?;
-        let place = self.place_of_member(found, &mut Meter::new());
-        let (item, _) = self.remove_in(place, &mut Meter::new());
-        Some(item)
+        self.remove_by::<First, Q>(query, &mut Costs::new(), &mut Meter::new())
     }
 
     /// Removes the item with the second key that the query stands for, and returns it, or `None` if there is none. The capacity stays.
     ///
-    /// Among fewer than `4 ^ r` items the call compares at most `3 * r + 19` sort keys. It hashes the query once, and each key of
-    /// the item once. It allocates no memory.
+    /// The call hashes the query and searches for it once, hashes each other key of the item once, and walks once through each
+    /// table. Among fewer than `4 ^ r` items it compares at most `3 * r + 19` sort keys. It allocates no memory.
     pub fn remove2<Q: Query<T::K2>>(&mut self, query: Q) -> Option<T>
         ensures taken { IsOnly (has2 T.TriHashItem Q.stands_for query) (items self.old) result }
         ensures rest { items self.new ≡ filter (λ x. not (has2 T.TriHashItem Q.stands_for query x)) (items self.old) }
@@ -88,16 +90,13 @@ where
         ensures builder { self.new.builder ≡ self.old.builder }
         ensures absent { IfNone result (self.new ≡ self.old) }
     {
-        let found = self.inside().get2(query)?;
-        let place = self.place_of_member(found, &mut Meter::new());
-        let (item, _) = self.remove_in(place, &mut Meter::new());
-        Some(item)
+        self.remove_by::<Second, Q>(query, &mut Costs::new(), &mut Meter::new())
     }
 
     /// Removes the item with the third key that the query stands for, and returns it, or `None` if there is none. The capacity stays.
     ///
-    /// Among fewer than `4 ^ r` items the call compares at most `3 * r + 19` sort keys. It hashes the query once, and each key of
-    /// the item once. It allocates no memory.
+    /// The call hashes the query and searches for it once, hashes each other key of the item once, and walks once through each
+    /// table. Among fewer than `4 ^ r` items it compares at most `3 * r + 19` sort keys. It allocates no memory.
     pub fn remove3<Q: Query<T::K3>>(&mut self, query: Q) -> Option<T>
         ensures taken { IsOnly (has3 T.TriHashItem Q.stands_for query) (items self.old) result }
         ensures rest { items self.new ≡ filter (λ x. not (has3 T.TriHashItem Q.stands_for query x)) (items self.old) }
@@ -105,9 +104,161 @@ where
         ensures builder { self.new.builder ≡ self.old.builder }
         ensures absent { IfNone result (self.new ≡ self.old) }
     {
-        let found = self.inside().get3(query)?;
-        let place = self.place_of_member(found, &mut Meter::new());
-        let (item, _) = self.remove_in(place, &mut Meter::new());
-        Some(item)
+        self.remove_by::<Third, Q>(query, &mut Costs::new(), &mut Meter::new())
+    }
+
+    /// Puts an item in the place of the one with the first key that the query stands for, and returns the latter. The new item may have
+    /// other keys and another sort key. The error has the new item, and the map is as it was: `Absent` if no item has the key asked
+    /// for, and `Duplicate` if some other item conflicts with the new one.
+    ///
+    /// The call hashes the query and searches for it once, and hashes each key of the new item and searches for it once. It also
+    /// hashes those keys of the old item that the new one does not have. Among fewer than `4 ^ r` items it compares at most
+    /// `6 * r + 40` sort keys. It allocates no memory, and the capacity stays.
+    pub fn rekey1<Q: Query<T::K1>>(&mut self, query: Q, item: T) -> Result<T, NotReplaced<T>>
+        ensures found { IfOk result (λ x. IsOnly (has1 T.TriHashItem Q.stands_for query) (items self.old) (Some x)) }
+        ensures puts { OnOk result (items self.new ≡ with_item (by_sort T.sort_key T.SortKey.cmp T.key1 T.K1.cmp)
+            (filter (λ y. not (has1 T.TriHashItem Q.stands_for query y)) (items self.old)) item) }
+        ensures capacity { self.new.capacity ≡ self.old.capacity }
+        ensures builder { self.new.builder ≡ self.old.builder }
+        ensures handed_back { IfErr result (λ e. refused_item e ≡ item) }
+        ensures unchanged { OnErr result (self.new ≡ self.old) }
+        ensures reason { IfErr result (λ e. TellsWhyNot ⟦<T as Ranked>⟧.ranks
+            (has1 T.TriHashItem Q.stands_for query) (items self.old) item e) }
+    {
+        match self.rekey_by::<First, Q>(query, item, &mut Costs::new(), &mut Meter::new()) {
+            Ok(old) => Ok(old),
+            Err(Refused::Absent(item)) => Err(NotReplaced::Absent(item)),
+            Err(Refused::Conflict(item)) => Err(NotReplaced::Duplicate(item)),
+        }
+    }
+
+    /// Puts an item in the place of the one with the second key that the query stands for, and returns the latter. The new item may have
+    /// other keys and another sort key. The error has the new item, and the map is as it was: `Absent` if no item has the key asked
+    /// for, and `Duplicate` if some other item conflicts with the new one.
+    ///
+    /// The call hashes the query and searches for it once, and hashes each key of the new item and searches for it once. It also
+    /// hashes those keys of the old item that the new one does not have. Among fewer than `4 ^ r` items it compares at most
+    /// `6 * r + 40` sort keys. It allocates no memory, and the capacity stays.
+    pub fn rekey2<Q: Query<T::K2>>(&mut self, query: Q, item: T) -> Result<T, NotReplaced<T>>
+        ensures found { IfOk result (λ x. IsOnly (has2 T.TriHashItem Q.stands_for query) (items self.old) (Some x)) }
+        ensures puts { OnOk result (items self.new ≡ with_item (by_sort T.sort_key T.SortKey.cmp T.key1 T.K1.cmp)
+            (filter (λ y. not (has2 T.TriHashItem Q.stands_for query y)) (items self.old)) item) }
+        ensures capacity { self.new.capacity ≡ self.old.capacity }
+        ensures builder { self.new.builder ≡ self.old.builder }
+        ensures handed_back { IfErr result (λ e. refused_item e ≡ item) }
+        ensures unchanged { OnErr result (self.new ≡ self.old) }
+        ensures reason { IfErr result (λ e. TellsWhyNot ⟦<T as Ranked>⟧.ranks
+            (has2 T.TriHashItem Q.stands_for query) (items self.old) item e) }
+    {
+        match self.rekey_by::<Second, Q>(query, item, &mut Costs::new(), &mut Meter::new()) {
+            Ok(old) => Ok(old),
+            Err(Refused::Absent(item)) => Err(NotReplaced::Absent(item)),
+            Err(Refused::Conflict(item)) => Err(NotReplaced::Duplicate(item)),
+        }
+    }
+
+    /// Puts an item in the place of the one with the third key that the query stands for, and returns the latter. The new item may have
+    /// other keys and another sort key. The error has the new item, and the map is as it was: `Absent` if no item has the key asked
+    /// for, and `Duplicate` if some other item conflicts with the new one.
+    ///
+    /// The call hashes the query and searches for it once, and hashes each key of the new item and searches for it once. It also
+    /// hashes those keys of the old item that the new one does not have. Among fewer than `4 ^ r` items it compares at most
+    /// `6 * r + 40` sort keys. It allocates no memory, and the capacity stays.
+    pub fn rekey3<Q: Query<T::K3>>(&mut self, query: Q, item: T) -> Result<T, NotReplaced<T>>
+        ensures found { IfOk result (λ x. IsOnly (has3 T.TriHashItem Q.stands_for query) (items self.old) (Some x)) }
+        ensures puts { OnOk result (items self.new ≡ with_item (by_sort T.sort_key T.SortKey.cmp T.key1 T.K1.cmp)
+            (filter (λ y. not (has3 T.TriHashItem Q.stands_for query y)) (items self.old)) item) }
+        ensures capacity { self.new.capacity ≡ self.old.capacity }
+        ensures builder { self.new.builder ≡ self.old.builder }
+        ensures handed_back { IfErr result (λ e. refused_item e ≡ item) }
+        ensures unchanged { OnErr result (self.new ≡ self.old) }
+        ensures reason { IfErr result (λ e. TellsWhyNot ⟦<T as Ranked>⟧.ranks
+            (has3 T.TriHashItem Q.stands_for query) (items self.old) item e) }
+    {
+        match self.rekey_by::<Third, Q>(query, item, &mut Costs::new(), &mut Meter::new()) {
+            Ok(old) => Ok(old),
+            Err(Refused::Absent(item)) => Err(NotReplaced::Absent(item)),
+            Err(Refused::Conflict(item)) => Err(NotReplaced::Duplicate(item)),
+        }
+    }
+}
+
+impl<T: TriHashItemMut + Sortable, S: BuildHasher> Sorted<TriHashMap<T, S>>
+where
+    T::K1: Ord,
+{
+    /// Calls `f` with the item with the first key that the query stands for, stores what it returns as the item's data, and moves the item
+    /// to the place of its sort key, which may have changed. Returns whether there is such an item. If not, `f` is not called, and
+    /// nothing changes.
+    ///
+    /// The call hashes the query and searches for it once. Among fewer than `4 ^ r` items it compares at most `6 * r + 40` sort keys.
+    /// It allocates no memory, and writes no table.
+    ///
+    /// `sessions.update1(&key, |session| now)`
+    pub fn update1<Q: Query<T::K1>, F: FnOnce(&T) -> T::Data>(&mut self, query: Q, f: F) -> bool
+    where
+        T::Data: Drop,
+        F: Drop,
+        requires { (x : T) → IsOnly (has1 T.TriHashItem Q.stands_for query) (items self.old) (Some x)
+            → FnOnceTakesAt F.FnOnce f x }
+        ensures any_found { result ≡ list_any (has1 T.TriHashItem Q.stands_for query) (items self.old) }
+        ensures stores { result ≡ true → StoresOne (FnOnceReturnsAt F.FnOnce f) T.put
+            (by_sort T.sort_key T.SortKey.cmp T.key1 T.K1.cmp)
+            (has1 T.TriHashItem Q.stands_for query) (items self.old) (items self.new) }
+        ensures absent { result ≡ false → self.new ≡ self.old }
+        ensures capacity { self.new.capacity ≡ self.old.capacity }
+        ensures builder { self.new.builder ≡ self.old.builder }
+    {
+        self.update_by::<First, Q, F>(query, f, &mut Costs::new(), &mut Meter::new())
+    }
+
+    /// Calls `f` with the item with the second key that the query stands for, stores what it returns as the item's data, and moves the item
+    /// to the place of its sort key, which may have changed. Returns whether there is such an item. If not, `f` is not called, and
+    /// nothing changes.
+    ///
+    /// The call hashes the query and searches for it once. Among fewer than `4 ^ r` items it compares at most `6 * r + 40` sort keys.
+    /// It allocates no memory, and writes no table.
+    ///
+    /// `sessions.update2(&key, |session| now)`
+    pub fn update2<Q: Query<T::K2>, F: FnOnce(&T) -> T::Data>(&mut self, query: Q, f: F) -> bool
+    where
+        T::Data: Drop,
+        F: Drop,
+        requires { (x : T) → IsOnly (has2 T.TriHashItem Q.stands_for query) (items self.old) (Some x)
+            → FnOnceTakesAt F.FnOnce f x }
+        ensures any_found { result ≡ list_any (has2 T.TriHashItem Q.stands_for query) (items self.old) }
+        ensures stores { result ≡ true → StoresOne (FnOnceReturnsAt F.FnOnce f) T.put
+            (by_sort T.sort_key T.SortKey.cmp T.key1 T.K1.cmp)
+            (has2 T.TriHashItem Q.stands_for query) (items self.old) (items self.new) }
+        ensures absent { result ≡ false → self.new ≡ self.old }
+        ensures capacity { self.new.capacity ≡ self.old.capacity }
+        ensures builder { self.new.builder ≡ self.old.builder }
+    {
+        self.update_by::<Second, Q, F>(query, f, &mut Costs::new(), &mut Meter::new())
+    }
+
+    /// Calls `f` with the item with the third key that the query stands for, stores what it returns as the item's data, and moves the item
+    /// to the place of its sort key, which may have changed. Returns whether there is such an item. If not, `f` is not called, and
+    /// nothing changes.
+    ///
+    /// The call hashes the query and searches for it once. Among fewer than `4 ^ r` items it compares at most `6 * r + 40` sort keys.
+    /// It allocates no memory, and writes no table.
+    ///
+    /// `sessions.update3(&key, |session| now)`
+    pub fn update3<Q: Query<T::K3>, F: FnOnce(&T) -> T::Data>(&mut self, query: Q, f: F) -> bool
+    where
+        T::Data: Drop,
+        F: Drop,
+        requires { (x : T) → IsOnly (has3 T.TriHashItem Q.stands_for query) (items self.old) (Some x)
+            → FnOnceTakesAt F.FnOnce f x }
+        ensures any_found { result ≡ list_any (has3 T.TriHashItem Q.stands_for query) (items self.old) }
+        ensures stores { result ≡ true → StoresOne (FnOnceReturnsAt F.FnOnce f) T.put
+            (by_sort T.sort_key T.SortKey.cmp T.key1 T.K1.cmp)
+            (has3 T.TriHashItem Q.stands_for query) (items self.old) (items self.new) }
+        ensures absent { result ≡ false → self.new ≡ self.old }
+        ensures capacity { self.new.capacity ≡ self.old.capacity }
+        ensures builder { self.new.builder ≡ self.old.builder }
+    {
+        self.update_by::<Third, Q, F>(query, f, &mut Costs::new(), &mut Meter::new())
     }
 }

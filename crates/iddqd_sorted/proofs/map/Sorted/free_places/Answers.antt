@@ -1,12 +1,14 @@
-use Rattle.std.proofs.Common.{◌≡◌, ◌≢◌, [], arith}
+use Rattle.std.proofs.Common.{◌≡◌, ◌≢◌, [], map, arith}
+use Rattle.std.specs.Prelude.{is_some}
 use Rattle.std.proofs.lemmas.List.Sorted.{IsPermutation-sym}
-use Rattle.std.proofs.lemmas.Result.{IfErr-weaker, on_ok_weaker, on_err_weaker}
+use Rattle.std.proofs.lemmas.Result.{IfErr-weaker, on_ok_weaker}
 use Rattle.iddqd_store.specs.Bag.{tests_of, conflicts_of, do_conflict}
 use Rattle.iddqd_order.specs.Row.{line}
 use Rattle.iddqd_sorted.proofs.Costs.{SearchesEach-room}
 use Rattle.iddqd_sorted.proofs.Finding.{none-permutation}
-use Rattle.iddqd_sorted.proofs.Flags.{AreAny-permutation}
+use Rattle.iddqd_sorted.proofs.Flags.{AreAny-permutation, AreAny-found, free-none}
 use Rattle.iddqd_sorted.proofs.Listed.{IsPermutation-listed}
+use Rattle.iddqd_sorted.proofs.Overwriting.{few_found, listing-few}
 use Rattle.iddqd_sorted.proofs.Sorting.{total}
 use Rattle.iddqd_sorted.proofs.map.Sorted.free_places.Goals as goal
 
@@ -18,12 +20,36 @@ returns-clause-free g c =
 pub returns-clause-taken : goal.returns-clause-taken
 returns-clause-taken g c =
     let same = IsPermutation-listed (total g.M.Item.Sortable.sort_key g.met.M.Item.SortKey.Ord.total g.M.SlotMap.first_key g.met.M.FirstKey.Ord.total) g.M.Item.Sortable.sort_key (g.M.SlotMap.shown c.self.inside.map).slots (line c.self.inside.order.blocks) c.self.invariant in
-    rw (← c.self.view_is) (IfErr-weaker c.places.result _ _ (λ keys. AreAny-permutation (g.M.SlotMap.flags keys) (tests_of g.M.SlotMap.ranks c.args.item.now) _ _ same) c.places.ensures.taken)
+    let tests = tests_of g.M.SlotMap.ranks c.args.item.now in
+    rw (← c.self.view_is) (IfErr-weaker c.places.result _ _
+    (λ found finds. AreAny-permutation (map (λ at. is_some at.slot) (g.M.SlotMap.searched found)) tests _ _ same (AreAny-found tests _ (g.M.SlotMap.searched found) finds.found))
+    c.places.ensures.conflicts)
 
 pub returns-clause-conflict : goal.returns-clause-conflict
 returns-clause-conflict g c =
     let same = IsPermutation-listed (total g.M.Item.Sortable.sort_key g.met.M.Item.SortKey.Ord.total g.M.SlotMap.first_key g.met.M.FirstKey.Ord.total) g.M.Item.Sortable.sort_key (g.M.SlotMap.shown c.self.inside.map).slots (line c.self.inside.order.blocks) c.self.invariant in
-    rw (← c.self.view_is) (on_err_weaker c.places.result (λ some none. some (none-permutation (do_conflict g.M.SlotMap.ranks c.args.item.now) _ _ (IsPermutation-sym _ _ same) none)) c.places.ensures.conflict)
+    rw (← c.self.view_is) (IfErr-weaker c.places.result _ _
+    (λ found finds none. finds.conflict.some (none-permutation (do_conflict g.M.SlotMap.ranks c.args.item.now) _ _ (IsPermutation-sym _ _ same) none))
+    c.places.ensures.conflicts)
+
+pub returns-clause-some : goal.returns-clause-some
+returns-clause-some g c =
+    let tests = tests_of g.M.SlotMap.ranks c.args.item.now in
+    IfErr-weaker c.places.result _ _
+    (λ found finds none. finds.conflict.some (free-none g.M.SlotMap.ranks c.args.item.now _ _ (AreAny-found tests _ (g.M.SlotMap.searched found) finds.found) none))
+    c.places.ensures.conflicts
 
 pub returns-clause-costs : goal.returns-clause-costs
 returns-clause-costs g c = rw (← c.self.view_is) (SearchesEach-room _ _ (g.M.SlotMap.shown c.self.inside.map).capacity (omega arith) _ _ _ _ c.places.ensures.costs)
+
+pub returns-clause-same_conflicts : goal.returns-clause-same_conflicts
+returns-clause-same_conflicts g c =
+    let same = IsPermutation-listed (total g.M.Item.Sortable.sort_key g.met.M.Item.SortKey.Ord.total g.M.SlotMap.first_key g.met.M.FirstKey.Ord.total) g.M.Item.Sortable.sort_key (g.M.SlotMap.shown c.self.inside.map).slots (line c.self.inside.order.blocks) c.self.invariant in
+    let tests = tests_of g.M.SlotMap.ranks c.args.item.now in
+    rw (← c.self.view_is) (IfErr-weaker c.places.result _ _
+    (λ found finds. listing-few tests _ _ (few_found tests (g.M.SlotMap.shown c.self.inside.map).slots (map (λ at. at.slot) (g.M.SlotMap.searched found)) finds.found) same)
+    c.places.ensures.conflicts)
+
+pub returns-clause-listed : goal.returns-clause-listed
+returns-clause-listed g c =
+    rw (← c.self.view_is) (IsPermutation-listed (total g.M.Item.Sortable.sort_key g.met.M.Item.SortKey.Ord.total g.M.SlotMap.first_key g.met.M.FirstKey.Ord.total) g.M.Item.Sortable.sort_key (g.M.SlotMap.shown c.self.inside.map).slots (line c.self.inside.order.blocks) c.self.invariant)

@@ -1,0 +1,159 @@
+-- Items that are inserted one after another, and removed again by their slots.
+use Rattle.std.proofs.Common.{◌≡◌, ℕ, Bool, true, ◌+◌, ◌<◌, ◌≤◌, List, [], ◌∷◌, ◌++◌, Option, Some, None, length, get_or, refl, sym, ap, ◌∙◌, subst, arith, inl, inr}
+use Rattle.std.specs.Prelude.{Contains, IsPermutation}
+use Rattle.std.specs.List.{remove}
+use Rattle.std.specs.Cmp.{IsTotalOrder}
+use Rattle.std.specs.Ordering.{is_lt}
+use Rattle.std.specs.declared.cmp.Ordering.{Ordering}
+use Rattle.std.specs.declared.cmp.Ordering.TheVariants.{Less}
+use Rattle.std.proofs.lemmas.Bool.{false≢true, cases_lt, cases_eq}
+use Rattle.std.proofs.lemmas.Cmp.{tied_itself}
+use Rattle.std.proofs.lemmas.List.{get_or-set_other}
+use Rattle.std.proofs.lemmas.List.Edits.{length-remove, get_or-remove_below, get_or-remove_above}
+use Rattle.std.proofs.lemmas.List.Sums.{fold_push}
+use Rattle.std.proofs.lemmas.List.Sorted.{length_permutation}
+use Rattle.iddqd_store.specs.Bag.{Ranks, AreLawful, IsSound, conflicts_of, do_conflict}
+use Rattle.iddqd_store.specs.Map.{Map, Loses}
+use Rattle.iddqd_store.specs.SlotMap.{AreAny}
+use Rattle.iddqd_store.specs.Slots.{get, contents, live_count, Updates}
+use Rattle.iddqd_store.specs.Slots.Found.{StandAt, items_at}
+use Rattle.iddqd_store.proofs.BagLemmas.Building.{AddsTo-IsPermutation, AddsTo-nil, AddsTo-push}
+use Rattle.iddqd_store.proofs.BagLemmas.Cancelled.{IsPermutation-cancelled}
+use Rattle.iddqd_store.proofs.BagLemmas.Sound.{IsSound-IsPermutation}
+use Rattle.iddqd_store.proofs.SlotLemmas.Batch.{StandAt-nil}
+use Rattle.iddqd_store.proofs.SlotLemmas.Contents.{length-contents}
+use Rattle.iddqd_sorted.specs.declared.entry.Entry.{Entry}
+use Rattle.iddqd_sorted.specs.Entries.{IsListed, items_in}
+use Rattle.iddqd_sorted.specs.Batches.{AddsInOrder, GrowsUnless}
+use Rattle.iddqd_sorted.specs.Items.{SortedValue, items, bag, with_item}
+use Rattle.iddqd_sorted.specs.Ordered.{IsAscending}
+use Rattle.iddqd_sorted.proofs.Flags.{AreAny-permutation}
+use Rattle.iddqd_sorted.proofs.Listed.{item_at_index, Contains-listed, IsListed-removed, long}
+use Rattle.iddqd_sorted.proofs.Moving.{bare, left, left_items}
+use Rattle.iddqd_sorted.proofs.Unique.{ascending-unique}
+
+module _ {T : Type 0} {by : T → T → Ordering} (o : IsTotalOrder by) where
+  -- an item of an ascending list stands there once
+  not_again : (xs : List T) (i : ℕ) (x : T) → IsAscending by xs → i < length xs → get_or xs i x ≡ x → Contains (remove xs i) x → ⊥
+  not_again xs i x up lt here (j, within, there) =
+      let len = length-remove xs i lt in
+      let level = tied_itself o x in
+      elim (cases_lt j i) [
+        | inl below ↦
+            let first : get_or xs j x ≡ x = sym (get_or-remove_below xs i x j below lt) ∙ there in
+            let low : by (get_or xs j x) (get_or xs i x) ≡ Less = up j i x below lt in
+            false≢true (ap is_lt (sym level ∙ rw (first, here) at low))
+        | inr above ↦
+            let second : get_or xs (j + 1) x ≡ x = sym (get_or-remove_above xs i x j (omega (arith, above)) lt) ∙ there in
+            let low : by (get_or xs i x) (get_or xs (j + 1) x) ≡ Less = up i (j + 1) x (omega (arith, above)) (omega (arith, within, len, lt)) in
+            false≢true (ap is_lt (sym level ∙ rw (second, here) at low))
+      ]
+
+  module _ {K : Type 0} (sort : T → K) (slots : List (Option T)) (es : List (Entry K)) (r : IsListed by sort slots es)
+      (i : ℕ) (lt : i < length es) (e : Entry K) (is : e ≡ get_or es i e) (slot : ℕ) (x : T) (there : get slots slot ≡ Some x) (here : get_or (items_in slots es) i x ≡ x) where
+    had : get slots e.slot ≡ Some x
+    had = ap (λ (f : Entry K). get slots f.slot) is ∙ item_at_index o sort slots es r i e x lt ∙ ap Some here
+
+    -- the entry of an item of a slot names that slot
+    pub same_slot : e.slot ≡ slot
+    same_slot = elim (cases_eq e.slot slot) [
+      | inl same ↦ same
+      | inr apart ↦
+          let kept : get (bare slots e.slot x x had) slot ≡ Some x = get_or-set_other slots e.slot slot None None (λ same. apart (sym same)) ∙ there in
+          let again : Contains (items_in (bare slots e.slot x x had) (remove es i)) x = Contains-listed o sort (bare slots e.slot x x had) (remove es i) (left o sort slots es r i lt e is x x had) slot x kept in
+          absurd (not_again (items_in slots es) i x r.ascending (omega (arith, lt, long o sort slots es r)) here
+          (subst (λ (q : List T). Contains q x) (left_items o sort slots es r i lt e is x x had) again))
+    ]
+
+    -- the order without that entry lists the others
+    pub IsListed-taken : (new : List (Option T)) (gone : T) → Updates slots new slot None → IsPermutation (contents slots) (gone ∷ contents new) → IsListed by sort new (remove es i)
+    IsListed-taken new gone updates out =
+        let fewer : live_count new + 1 ≡ live_count slots = omega (arith, length_permutation _ _ out, length-contents slots, length-contents new) in
+        let at_entry : Updates slots new (get_or es i e).slot None = subst (λ (f : Entry K). Updates slots new f.slot None) is (subst (λ (s : ℕ). Updates slots new s None) (sym same_slot) updates) in
+        IsListed-removed o sort slots es r new i e lt at_entry fewer
+
+module _ {T K S : Type 0} where
+  -- a map without its order
+  abbrev pub as_map : SortedValue T K S → Map T S
+  as_map m = record { slots = m.slots; capacity = m.capacity; builder = m.builder }
+
+  pub leaves : (old new : SortedValue T K S) (gone : T) → IsPermutation (bag old) (gone ∷ bag new) → new.capacity ≡ old.capacity → new.builder ≡ old.builder → Loses (as_map old) (gone ∷ []) (as_map new)
+  leaves old new gone left room builder = record { items = left; same_room = room; same_builder = builder }
+
+-- A map became another one. Its capacity is no lower, and if `certain` holds, it is the same, and so many more items fit.
+pub record HasRoomOn {T K S : Type 0} (certain : Type 0) (more : ℕ) (old now : SortedValue T K S) : Type 0 where
+  pub no_less_room : old.capacity ≤ now.capacity
+  pub fits : certain → (length (items now) + more ≤ now.capacity) × (now.capacity ≡ old.capacity)
+  pub same_builder : now.builder ≡ old.builder
+
+-- The items of a list were added to a map, and their slots noted.
+pub record InsertsBatch {T K S : Type 0} (ranks : Ranks T) (by : T → T → Ordering) (certain : Type 0) (more : ℕ) (old now : SortedValue T K S) (notes : List ℕ) (xs : List T) : Type 0 where
+  pub added : AddsInOrder ranks by (items old) (items now) xs
+  pub noted : StandAt now.slots notes xs
+  pub room : HasRoomOn certain more old now
+
+-- They were removed again.
+pub record Undone {T : Type 0} (ranks : Ranks T) (old new taken xs : List T) (tests : List (T → Bool)) (flags : List Bool) : Type 0 where
+  pub all : taken ≡ xs
+  pub same : new ≡ old
+  pub apart : IsSound ranks (taken ++ old)
+  pub found : AreAny flags tests (taken ++ old)
+
+-- an item that conflicts does so at some rank
+pub some_rank : {T : Type 0} (ranks : Ranks T) (x : T) → do_conflict ranks x x ≡ true → 0 < length ranks
+some_rank [] x conflict = absurd (false≢true conflict)
+some_rank (agree ∷ ranks) x conflict = omega arith
+
+pub no_batch : {T K S : Type 0} (ranks : Ranks T) (by : T → T → Ordering) {certain : Type 0} {more : ℕ} (m : SortedValue T K S) → HasRoomOn certain more m m → InsertsBatch ranks by certain more m m [] []
+no_batch ranks by m room = record { added = record { lists = refl; all = AddsTo-nil ranks (items m) }; noted = StandAt-nil m.slots; room = room }
+
+module _ {T K S : Type 0} {certain : Type 0} {more : ℕ} {old now : SortedValue T K S} (so_far : HasRoomOn certain more old now) where
+  pub grows_so_far : GrowsUnless certain old now
+  grows_so_far = record { no_less_room = so_far.no_less_room; same_room = λ fit. (so_far.fits fit).1; same_builder = so_far.same_builder }
+
+  -- one of the items that are left did not come in, and others left
+  pub grows_left : (next : ℕ) → next < more → {mid new : SortedValue T K S} → GrowsUnless (length (items now) < now.capacity) now mid → new.capacity ≡ mid.capacity → new.builder ≡ mid.builder → GrowsUnless certain old new
+  grows_left next nearer grows room builder = record {
+    no_less_room = omega (arith, so_far.no_less_room, grows.no_less_room, room);
+    same_room = λ fit. let before = so_far.fits fit in room ∙ grows.same_room (omega (arith, before.0, nearer)) ∙ before.1;
+    same_builder = builder ∙ grows.same_builder ∙ so_far.same_builder;
+  }
+
+  -- one of them came in
+  room_then : (next : ℕ) → next < more → {new : SortedValue T K S} {x : T} → IsPermutation (items new) (x ∷ items now) → GrowsUnless (length (items now) < now.capacity) now new → HasRoomOn certain next old new
+  room_then next nearer gained grows = record {
+    no_less_room = omega (arith, so_far.no_less_room, grows.no_less_room);
+    fits = λ fit.
+        let before = so_far.fits fit in
+        let stays = grows.same_room (omega (arith, before.0, nearer)) in
+        (omega (arith, length_permutation _ _ gained, before.0, nearer, stays), stays ∙ before.1);
+    same_builder = grows.same_builder ∙ so_far.same_builder;
+  }
+
+module _ {T K S : Type 0} {ranks : Ranks T} {by : T → T → Ordering} {certain : Type 0} {more : ℕ} {old now : SortedValue T K S} {notes : List ℕ} {xs : List T} (batch : InsertsBatch ranks by certain more old now notes xs) where
+  pub one_more : {new : SortedValue T K S} {seen : List ℕ} {x : T} (next : ℕ) → next < more → items new ≡ with_item by (items now) x → IsPermutation (items new) (x ∷ items now)
+      → conflicts_of ranks (items now) x ≡ [] → ((ys : List T) → StandAt now.slots notes ys → StandAt new.slots seen (ys ++ x ∷ []))
+      → GrowsUnless (length (items now) < now.capacity) now new → InsertsBatch ranks by certain next old new seen (xs ++ x ∷ [])
+  one_more {new} {seen} {x} next nearer lists gained free note grows = record {
+    added = record {
+      lists = lists ∙ ap (λ (q : List T). with_item by q x) batch.added.lists ∙ sym (fold_push (with_item by) (items old) xs x);
+      all = AddsTo-push ranks (items old) (items now) (items new) xs x batch.added.all free gained;
+    };
+    noted = note xs batch.noted;
+    room = room_then batch.room next nearer gained grows;
+  }
+
+  pub undone : (o : IsTotalOrder by) → AreLawful ranks → (mid new : SortedValue T K S) → {seen : List ℕ} {taken : List T} {tests : List (T → Bool)} {flags : List Bool} → 0 < length ranks
+      → IsSound ranks (items now) → IsAscending by (items old) → IsAscending by (items new) → mid.slots ≡ now.slots → mid.blocks ≡ now.blocks → seen ≡ notes → taken ≡ items_at mid.slots seen
+      → IsPermutation (items mid) (taken ++ items new) → AreAny flags tests (items now) → Undone ranks (items old) (items new) taken xs tests flags
+  undone o laws mid new {taken = taken} {tests = tests} {flags = flags} some sound up_old up_new slots blocks seen values gone found =
+      let all : taken ≡ xs = values ∙ rw (slots, seen) batch.noted.items in
+      let out : IsPermutation (items now) (taken ++ items new) = rw (slots, blocks) at gone in
+      let listed : IsPermutation (items now) (taken ++ items old) = subst (λ (l : List T). IsPermutation (items now) (l ++ items old)) (sym all) (AddsTo-IsPermutation ranks (items old) (items now) xs batch.added.all) in
+      let apart = IsSound-IsPermutation ranks laws (items now) (taken ++ items old) listed sound in
+      record {
+        all = all;
+        same = ascending-unique o (items new) (items old) up_new up_old (IsPermutation-cancelled ranks some laws (items now) taken (items old) (items new) apart listed out);
+        apart = apart;
+        found = AreAny-permutation flags tests (items now) (taken ++ items old) listed found;
+      }

@@ -1,0 +1,42 @@
+use Rattle.std.proofs.Common.{sym, ◌∙◌, length, ◌<◌, rules, arith}
+use Rattle.std.specs.Map.Iter.{deref}
+use Rattle.std.specs.Ordering.{is_ge, is_lt}
+use Rattle.std.specs.Prelude.{not}
+use Rattle.std_collections.proofs.IterRuns.{shows_in_order, shows_in_reverse}
+use Rattle.iddqd_store.specs.Slots.{IsLive}
+use Rattle.iddqd_order.specs.Row.{line}
+use Rattle.iddqd_sorted.specs.Entries.{item_in}
+use Rattle.iddqd_sorted.proofs.Entries.{All-range, items-range}
+use Rattle.iddqd_sorted.proofs.Parts.{filter-between}
+use Rattle.iddqd_sorted.proofs.Sorting.{IsCut-same, not_lt}
+use Rattle.iddqd_sorted.proofs.Walks.{meets_first, meets_last}
+use Rattle.iddqd_sorted.proofs.map.Sorted.between_counted.Goals as goal
+
+pub over-requires : goal.over-requires
+over-requires g c = rw (c.slots.ensures, c.range.ensures) (All-range (λ e. IsLive (g.M.SlotMap.shown c.self.inside.map).slots e.slot) (line c.self.inside.order.blocks) _ _ c.self.invariant.live)
+
+pub returns-clause-gives : goal.returns-clause-gives
+returns-clause-gives g c =
+    let at = λ (x : g.row.M-Item.Denot) (k : g.row.M-Item-SortKey.Denot). g.M.Item.SortKey.Ord.cmp (g.M.Item.Sortable.sort_key x) k in
+    let from = rw (← c.self.view_is) at c.place_before-from.ensures.cut in
+    let to = IsCut-same (λ x. is_ge (at x c.args.before.now)) (λ x. not (is_lt (at x c.args.before.now))) (λ x. not_lt (at x c.args.before.now)) _ _ (rw (← c.self.view_is) at c.place_before-to.ensures.cut) in
+    rw (← c.self.view_is) ((rw (c.slots.ensures, c.range.ensures) at c.over.ensures.gives)
+    ∙ items-range (item_in (g.M.SlotMap.shown c.self.inside.map).slots) (line c.self.inside.order.blocks) _ _ c.self.invariant.live
+    ∙ sym (filter-between (λ x. is_ge (at x c.args.from.now)) (λ x. is_lt (at x c.args.before.now)) _ _ _ from to))
+
+pub returns-clause-runs : goal.returns-clause-runs
+returns-clause-runs g c = shows_in_order deref
+
+pub returns-clause-runs_back : goal.returns-clause-runs_back
+returns-clause-runs_back g c = shows_in_reverse deref
+
+pub returns-clause-meets_first : goal.returns-clause-meets_first
+returns-clause-meets_first g c = meets_first
+
+pub returns-clause-meets_last : goal.returns-clause-meets_last
+returns-clause-meets_last g c = meets_last
+
+pub returns-clause-countable : goal.returns-clause-countable
+returns-clause-countable g c =
+    let t : length c.range.result < 18446744073709551616 = search rules in
+    omega (arith, t, c.over.ensures.as_many)

@@ -1,0 +1,82 @@
+use Rattle.std.proofs.Common.{◌≡◌, ◌∙◌, ap, length, arith}
+use Rattle.std.proofs.lemmas.List.Sorted.{length_permutation}
+use Rattle.iddqd_order.specs.Row.{line, position}
+use Rattle.iddqd_store.specs.Slots.{contents}
+use Rattle.iddqd_store.proofs.RankLemmas.Costs.{SearchCosts-room}
+use Rattle.iddqd_store.proofs.SlotLemmas.Contents.{contents-take}
+use Rattle.iddqd_sorted.specs.Items.{by_sort, with_item}
+use Rattle.iddqd_sorted.proofs.Exchanged.{others_left, others_items, free_taken}
+use Rattle.iddqd_sorted.proofs.Keyed.{only_none, only_some, others_some, blocked, rekeying}
+use Rattle.iddqd_sorted.proofs.Listed.{long}
+use Rattle.iddqd_sorted.proofs.Sorting.{total}
+use Rattle.iddqd_sorted.proofs.map.Sorted.rekey_by.Goals as goal
+
+pub returns-in_default-clause-reason : goal.returns-in_default-clause-reason
+returns-in_default-clause-reason g c =
+    let all = total g.M.Item.Sortable.sort_key g.met.M.Item.SortKey.Ord.total g.M.SlotMap.first_key g.met.M.FirstKey.Ord.total in
+    rw (← c.self.view_is) (only_none all g.M.Item.Sortable.sort_key (g.M.SlotMap.shown c.self.inside.map).slots (line c.self.inside.order.blocks) c.self.invariant _ c.in_default.ensures.found)
+
+pub returns-in_default-clause-costs : goal.returns-in_default-clause-costs
+returns-in_default-clause-costs g c = rw (← c.self.view_is) (SearchCosts-room _ (omega arith) c.in_default.ensures.costs)
+
+pub resettle-requires-clause-others : goal.resettle-requires-clause-others
+resettle-requires-clause-others g c =
+    let all = total g.M.Item.Sortable.sort_key g.met.M.Item.SortKey.Ord.total g.M.SlotMap.first_key g.met.M.FirstKey.Ord.total in
+    let slots = (g.M.SlotMap.shown c.self.inside.map).slots in
+    let new = (g.M.SlotMap.shown c.rekey_at.new.self).slots in
+    let at = c.place_of_slot-place.ensures in
+    let put = c.in-Ok.ensures in
+    let many : length (contents new) ≡ length (contents slots) = omega (arith, length_permutation _ _ put.puts_at.items, length_permutation _ _ (contents-take slots _ c.in-Ok.gone put.value)) in
+    others_left all g.M.Item.Sortable.sort_key slots (line c.self.inside.order.blocks) c.self.invariant _ c.in-Ok.gone _ at.within at.slot new c.args.item put.updates many
+
+pub resettle-requires-clause-free : goal.resettle-requires-clause-free
+resettle-requires-clause-free g c = λ x is.
+    free_taken g.M.SlotMap.ranks g.met.M.SlotMap.lawful (g.M.SlotMap.shown c.rekey_at.new.self).slots _ x is c.in-Ok.ensures.puts_at.sound
+
+pub invariant_of-self : goal.invariant_of-self
+invariant_of-self g c = c.resettle.ensures.settles.listed
+
+pub returns-in-Ok-clause-found : goal.returns-in-Ok-clause-found
+returns-in-Ok-clause-found g c =
+    let all = total g.M.Item.Sortable.sort_key g.met.M.Item.SortKey.Ord.total g.M.SlotMap.first_key g.met.M.FirstKey.Ord.total in
+    rw (← c.self.view_is) (only_some all g.M.Item.Sortable.sort_key (g.M.SlotMap.shown c.self.inside.map).slots (line c.self.inside.order.blocks) c.self.invariant _ _ c.in-Some.ensures.found c.in-Ok.gone c.in-Ok.ensures.value)
+
+pub returns-in-Ok-clause-puts : goal.returns-in-Ok-clause-puts
+returns-in-Ok-clause-puts g c =
+    let all = total g.M.Item.Sortable.sort_key g.met.M.Item.SortKey.Ord.total g.M.SlotMap.first_key g.met.M.FirstKey.Ord.total in
+    let slots = (g.M.SlotMap.shown c.self.inside.map).slots in
+    let es = line c.self.inside.order.blocks in
+    let new = (g.M.SlotMap.shown c.rekey_at.new.self).slots in
+    let at = c.place_of_slot-place.ensures in
+    let p = position c.self.inside.order.blocks c.place_of_slot-place.result in
+    let put = c.in-Ok.ensures in
+    let many : length (contents new) ≡ length (contents slots) = omega (arith, length_permutation _ _ put.puts_at.items, length_permutation _ _ (contents-take slots _ c.in-Ok.gone put.value)) in
+    let left = others_items all g.M.Item.Sortable.sort_key slots es c.self.invariant _ c.in-Ok.gone p at.within at.slot new c.args.item put.updates many in
+    let others = others_some all g.M.Item.Sortable.sort_key slots es c.self.invariant _ _ c.in-Some.ensures.found c.in-Ok.gone put.value p at.within at.slot in
+    rw (← c.self.view_is) (c.resettle.ensures.settles.items c.args.item put.updates.changed ∙ ap (λ l. with_item (by_sort g.M.Item.Sortable.sort_key g.M.Item.SortKey.Ord.cmp g.M.SlotMap.first_key g.M.FirstKey.Ord.cmp) l c.args.item) (left ∙ others))
+
+pub returns-in-Err-clause-reason : goal.returns-in-Err-clause-reason
+returns-in-Err-clause-reason g c =
+    let all = total g.M.Item.Sortable.sort_key g.met.M.Item.SortKey.Ord.total g.M.SlotMap.first_key g.met.M.FirstKey.Ord.total in
+    let at = c.place_of_slot-place.ensures in
+    rw (← c.self.view_is) (blocked all g.M.Item.Sortable.sort_key (g.M.SlotMap.shown c.self.inside.map).slots (line c.self.inside.order.blocks) c.self.invariant _ _ c.in-Some.ensures.found _ at.within at.slot g.M.SlotMap.ranks c.args.item c.in-Err.ensures.reason)
+
+pub returns-in-Ok-clause-asked : goal.returns-in-Ok-clause-asked
+returns-in-Ok-clause-asked g c = λ r few.
+    (let all = total g.M.Item.Sortable.sort_key g.met.M.Item.SortKey.Ord.total g.M.SlotMap.first_key g.met.M.FirstKey.Ord.total in
+    let few_items = rw (← c.self.view_is) at few in
+    let entries = long all g.M.Item.Sortable.sort_key (g.M.SlotMap.shown c.self.inside.map).slots (line c.self.inside.order.blocks) c.self.invariant in
+    omega (arith, c.place_of_slot-place.ensures.asked r (omega (arith, entries, few_items)), c.resettle.ensures.asked r (omega (arith, entries, few_items))))
+
+pub returns-in-Err-clause-asked : goal.returns-in-Err-clause-asked
+returns-in-Err-clause-asked g c = λ r few.
+    (let all = total g.M.Item.Sortable.sort_key g.met.M.Item.SortKey.Ord.total g.M.SlotMap.first_key g.met.M.FirstKey.Ord.total in
+    let few_items = rw (← c.self.view_is) at few in
+    let entries = long all g.M.Item.Sortable.sort_key (g.M.SlotMap.shown c.self.inside.map).slots (line c.self.inside.order.blocks) c.self.invariant in
+    omega (arith, c.place_of_slot-place.ensures.asked r (omega (arith, entries, few_items))))
+
+pub returns-in-Ok-clause-costs : goal.returns-in-Ok-clause-costs
+returns-in-Ok-clause-costs g c = rw (← c.self.view_is) (rekeying _ (omega arith) c.in-Some.ensures.costs c.rekey_at.ensures.costs)
+
+pub returns-in-Err-clause-costs : goal.returns-in-Err-clause-costs
+returns-in-Err-clause-costs g c = rw (← c.self.view_is) (rekeying _ (omega arith) c.in-Some.ensures.costs c.rekey_at.ensures.costs)

@@ -1,0 +1,67 @@
+//! Replacing an item by another, whatever their keys are.
+ghost use Rattle.std.specs.Prelude.{◌≡◌, ℕ, ◌+◌, ◌*◌, ◌^◌, ◌<◌, ◌≤◌, not, filter, length, map, Some, IfOk, IfErr, OnOk, OnErr};
+ghost use Rattle.iddqd_store.specs.Bag.{IsOnly};
+ghost use Rattle.iddqd_store.specs.Rank.All.{hashes_of};
+ghost use Rattle.iddqd_sorted.specs.Items.{items, bag, by_sort, with_item};
+ghost use Rattle.iddqd_sorted.specs.Keyed.{RekeyingCosts, TellsWhyRefused, refused_item};
+
+use super::Sorted;
+use crate::item::Sortable;
+use iddqd_store::{Costs, FindsBy, Meter, Query, SlotMap};
+
+/// Why an item does not replace another, with that item.
+pub(crate) enum Refused<T> {
+    /// No item has the key asked for.
+    Absent(T),
+    /// Some other item conflicts with the new one.
+    Conflict(T),
+}
+
+impl<M: SlotMap> Sorted<M>
+where
+    M::Item: Sortable,
+    M::FirstKey: Ord,
+{
+    /// Puts an item in the place of the one whose key of the rank `R` the query stands for, and returns the latter. The new
+    /// item may have other keys and another sort key. The error has the new item, and the map is as it was: `Absent` if no
+    /// item has the key asked for, and `Conflict` if some other item conflicts with the new one. The capacity stays.
+    ///
+    /// The call hashes the query and searches for it once, and hashes each key of the new item and searches for it once. It
+    /// walks through each table at most twice. Among fewer than `4 ^ r` items it compares at most `6 * r + 40` sort keys. It
+    /// allocates no memory.
+    pub(crate) fn rekey_by<R, Q: Query<<M as FindsBy<R>>::Key>>(
+        &mut self,
+        query: Q,
+        item: M::Item,
+        costs: &mut Costs,
+        meter: &mut Meter,
+    ) -> Result<M::Item, Refused<M::Item>>
+    where
+        M: FindsBy<R>,
+        ensures found { IfOk result (λ x. IsOnly (λ y. Q.stands_for query (⟦<M as FindsBy<R>>⟧.key y)) (items self.old) (Some x)) }
+        ensures puts { OnOk result (items self.new ≡ with_item (by_sort M.Item.sort_key M.Item.SortKey.cmp M.first_key M.FirstKey.cmp)
+            (filter (λ y. not (Q.stands_for query (⟦<M as FindsBy<R>>⟧.key y))) (items self.old)) item) }
+        ensures capacity { self.new.capacity ≡ self.old.capacity }
+        ensures builder { self.new.builder ≡ self.old.builder }
+        ensures handed_back { IfErr result (λ e. refused_item e ≡ item) }
+        ensures unchanged { OnErr result (self.new ≡ self.old) }
+        ensures reason { IfErr result (λ e. TellsWhyRefused M.ranks (λ y. Q.stands_for query (⟦<M as FindsBy<R>>⟧.key y))
+            (items self.old) item e) }
+        ensures asked { (r : ℕ) → length (items self.old) < 4 ^ r → meter.new ≤ meter.old + (6 * r + 40) }
+        ensures costs { RekeyingCosts (⟦<M as FindsBy<R>>⟧.key_hash self.old.builder) (M.hashes self.old.builder) (bag self.old)
+            self.old.capacity (M.hash_of self.old.builder (Q.hash_input query)) (hashes_of (M.hashes self.old.builder) item)
+            (map (λ _. 2) M.ranks) result costs.old costs.new }
+    {
+        let Some((slot, _)) = self.map.slot_by(query, costs) else {
+            return Err(Refused::Absent(item));
+        };
+        let place = Sorted::<M>::place_of_slot(&self.map, &self.order, slot, meter);
+        match self.map.rekey_at(slot, item, costs) {
+            Ok(gone) => {
+                Sorted::<M>::resettle(&self.map, &mut self.order, place, slot, meter);
+                Ok(gone)
+            }
+            Err(item) => Err(Refused::Conflict(item)),
+        }
+    }
+}
