@@ -5,7 +5,7 @@ ghost use Rattle.serde.specs.Event.{Log, WritesSeq};
 ghost use Rattle.serde_json.specs.Sent.{IsTextOf};
 
 use iddqd_bi::{BiHashItem, BiHashMap};
-use iddqd_serde_bi::Seq;
+use iddqd_serde::Seq;
 use serde::{Described, Deserialize, Serialize};
 use serde_json::Error;
 use std::alloc::Global;
@@ -40,7 +40,7 @@ impl BiHashItem for Device {
 #[derive(Drop, Serialize, Deserialize)]
 pub struct Hub {
     pub name: String,
-    #[serde(with = "iddqd_serde_bi")]
+    #[serde(with = "iddqd_serde")]
     pub devices: BiHashMap<Device>,
 }
 
@@ -55,12 +55,12 @@ pub fn write_hub(alloc: Global, hub: &Hub) -> Result<String, Error> {
 }
 
 /// Reads devices from a list. Two devices with an equal key are an error, as for a hub.
-pub fn read_devices(alloc: Global, text: &[u8]) -> Result<Seq<Device>, Error> {
+pub fn read_devices(alloc: Global, text: &[u8]) -> Result<Seq<BiHashMap<Device>>, Error> {
     serde_json::from_slice(alloc, text)
 }
 
 /// Writes devices as a list, each once.
-pub fn write_devices(alloc: Global, devices: &Seq<Device>) -> Result<String, Error>
+pub fn write_devices(alloc: Global, devices: &Seq<BiHashMap<Device>>) -> Result<String, Error>
     ensures { IfOk result (λ text. (log : Log)
         × WritesSeq ⟦<Device as Described>⟧.writes (bag devices.now.0) (Some []) log
         × IsTextOf log (string_bytes text)) }

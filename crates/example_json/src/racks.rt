@@ -43,9 +43,9 @@ impl TriHashItem for Cable {
 /// A rack. In JSON its cables and its devices are lists.
 #[derive(Drop, Serialize, Deserialize)]
 pub struct Rack {
-    #[serde(with = "iddqd_serde_tri")]
+    #[serde(with = "iddqd_serde")]
     pub cables: TriHashMap<Cable>,
-    #[serde(with = "iddqd_serde_bi")]
+    #[serde(with = "iddqd_serde")]
     pub devices: BiHashMap<Device>,
 }
 

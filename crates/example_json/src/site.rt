@@ -2,7 +2,7 @@
 //! number. So no name stands under another, and none stands twice.
 ghost use Rattle.std.specs.Prelude.{◌≡◌, Some, [], string_bytes, IfOk};
 ghost use Rattle.iddqd_bi.specs.Map.{bag};
-ghost use Rattle.iddqd_serde_bi.specs.Entries.{entries};
+ghost use Rattle.iddqd_serde.specs.Entries.{entries};
 ghost use Rattle.serde.specs.Event.{Log, WritesMap};
 ghost use Rattle.serde_json.specs.Sent.{IsTextOf};
 
@@ -10,7 +10,7 @@ use crate::hub::Device;
 use crate::team::User;
 use iddqd_bi::BiHashMap;
 use iddqd_id::IdHashMap;
-use iddqd_serde_bi::as_map::AsMap;
+use iddqd_serde::as_map::AsMap;
 use serde::{Described, Deserialize, Serialize};
 use serde_json::Error;
 use std::alloc::Global;
@@ -18,9 +18,9 @@ use std::alloc::Global;
 /// A site. In JSON its people and its devices are objects.
 #[derive(Drop, Serialize, Deserialize)]
 pub struct Site {
-    #[serde(with = "iddqd_serde_id::as_map")]
+    #[serde(with = "iddqd_serde::as_map")]
     pub people: IdHashMap<User>,
-    #[serde(with = "iddqd_serde_bi::as_map")]
+    #[serde(with = "iddqd_serde::as_map")]
     pub devices: BiHashMap<Device>,
 }
 
@@ -36,12 +36,12 @@ pub fn write_site(alloc: Global, site: &Site) -> Result<String, Error> {
 }
 
 /// Reads devices from an object, as those of a site are read.
-pub fn read_numbered(alloc: Global, text: &[u8]) -> Result<AsMap<Device>, Error> {
+pub fn read_numbered(alloc: Global, text: &[u8]) -> Result<AsMap<BiHashMap<Device>>, Error> {
     serde_json::from_slice(alloc, text)
 }
 
 /// Writes devices as an object, each once, and each under its serial number.
-pub fn write_numbered(alloc: Global, devices: &AsMap<Device>) -> Result<String, Error>
+pub fn write_numbered(alloc: Global, devices: &AsMap<BiHashMap<Device>>) -> Result<String, Error>
     ensures { IfOk result (λ text. (log : Log)
         × WritesMap ⟦<u64 as Described>⟧.writes ⟦<Device as Described>⟧.writes
         (entries (λ d. d.serial) (bag devices.now.0)) (Some []) log

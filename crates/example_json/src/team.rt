@@ -24,7 +24,7 @@ impl IdHashItem for User {
 /// A team. In JSON its users are a list.
 #[derive(Drop, Serialize, Deserialize)]
 pub struct Team {
-    #[serde(with = "iddqd_serde_id")]
+    #[serde(with = "iddqd_serde")]
     pub users: IdHashMap<User>,
 }
 

@@ -1,7 +1,0 @@
-use Rattle.iddqd_bi.specs.Map.{bag}
-use Rattle.serde.proofs.Events.{WritesUpTo}
-use Rattle.iddqd_serde_bi.proofs.serialize.Given as goal
-
--- the items so far are written
-abbrev pub invariant-loop-item : goal.invariant-loop-item
-invariant-loop-item g l = WritesUpTo g.T.Described.writes (bag l.map) l.item-iterator (g.Out.Serializer.written l.initial.out) (g.Out.Serializer.written l.out)
