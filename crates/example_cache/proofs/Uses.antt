@@ -1,204 +1,117 @@
--- What is known of pages by their last use, and of those that a new page replaces.
-use Rattle.std.specs.Prelude.{ℕ, Bool, List, Option, Some, None, [], ◌∷◌, ◌++◌, ◌≡◌, ◌≢◌, ◌≤◌, ◌<◌, ◌+◌, ◌==◌, ◌||◌, not, true, false, length, filter, All, Contains, IfSome}
-use Rattle.std.specs.Prelude.{IfNone, IsPermutation, nat_eq, nat_le, nat_lt}
-use Rattle.std.specs.List.{list_all, list_any}
+-- Pages in the order of their last uses, and those that a new one leaves.
+use Rattle.std.specs.Prelude.{◌≡◌, ◌==◌, ◌<◌, ◌≤◌, ◌+◌, ℕ, Bool, true, false, not, List, [], ◌∷◌, ◌++◌, Option, Some, None, All, Contains, IsPermutation, length, filter}
 use Rattle.std.specs.Option.{option_to_list}
-use Rattle.std.proofs.Common.{refl, sym, ap, subst, ◌∙◌, arith}
+use Rattle.std.specs.List.{list_any}
+use Rattle.std.specs.Ordering.{nat_cmp}
+use Rattle.std.specs.declared.cmp.Ordering.{Ordering}
+use Rattle.std.proofs.Common.{refl, sym, ap, suc, zero, ◌∙◌, append-nil, arith}
+use Rattle.std.proofs.lemmas.Bool.{or_parts}
 use Rattle.std.proofs.lemmas.Bool.Decides.{nat_tests}
-use Rattle.std.proofs.lemmas.Cmp.{nat_eq_equiv}
 use Rattle.std.proofs.lemmas.Grind.{common_steps}
-use Rattle.std.proofs.lemmas.List.Elements.{All-cons, All-head, All-nil, All-tail}
-use Rattle.std.proofs.lemmas.List.Sorted.{All-permutation, IsPermutation-cons, IsPermutation-filter_both, IsPermutation-middle, IsPermutation-sym, IsPermutation-trans}
-use Rattle.std.proofs.lemmas.List.Sorted.{length_permutation, list_any-IsPermutation}
-use Rattle.iddqd_store.specs.Bag.{IsSound, Ranks, conflicts_of, tests_of, with_item, remainder}
-use Rattle.iddqd_store.specs.Rank.{agree}
-use Rattle.iddqd_store.proofs.BagLemmas.Sound.{named_is}
-use Rattle.iddqd_store.proofs.BagLemmas.Unique.{any_listed, some_item}
-use Rattle.iddqd_store.proofs.CallerLemmas.{NamesOne-query, distinct_at}
-use Rattle.example_cache.specs.Uses.{NotBefore, Before, rivals, is_taken, others}
+use Rattle.std.proofs.lemmas.List.Elements.{All-filter, All-head, All-push, All-tail}
+use Rattle.std.proofs.lemmas.List.Filters.{length-filter_both}
+use Rattle.std.proofs.lemmas.List.Sorted.{IsPermutation-cons, IsPermutation-middle, IsPermutation-sym, IsPermutation-trans}
+use Rattle.iddqd_store.proofs.BagLemmas.Sound.{Contains-filter, only_one}
+use Rattle.iddqd_sorted.specs.Items.{by_sort, with_item}
+use Rattle.iddqd_sorted.specs.Ordered.{IsAscending}
+use Rattle.iddqd_sorted.proofs.Replacing.{IsPermutation-only}
+use Rattle.example_cache.specs.Uses.{is_taken, others}
 use Rattle.example_cache.specs.declared.pages.Page.{Page}
 
-abbrev by_number : Page → Page → Bool
-by_number = agree (λ (p : Page). p.number) nat_eq
+module _ {T : Type 0} (p : T → Bool) where
+  none_left : (xs : List T) → list_any p (filter (λ y. not (p y)) xs) ≡ false
+  none_left [] = refl
+  none_left (x ∷ xs) = grind (arith, common_steps, none_left xs)
 
-abbrev by_frame : Page → Page → Bool
-by_frame = agree (λ (p : Page). p.frame) nat_eq
+  none_less : (q : T → Bool) (xs : List T) → list_any p xs ≡ false → list_any p (filter q xs) ≡ false
+  none_less q [] none = refl
+  none_less q (x ∷ xs) none = grind (arith, common_steps, none_less q xs)
 
-abbrev by_use : Page → Page → Bool
-by_use = agree (λ (p : Page). p.used) nat_eq
+  all_left : (xs : List T) → list_any p xs ≡ false → filter (λ y. not (p y)) xs ≡ xs
+  all_left [] none = refl
+  all_left (x ∷ xs) none = grind (arith, common_steps, all_left xs)
 
-abbrev pub item_ranks : Ranks Page
-item_ranks = by_number ∷ by_frame ∷ by_use ∷ []
+  shorter : (xs : List T) → length (filter (λ y. not (p y)) xs) ≤ length xs
+  shorter xs = omega (arith, length-filter_both p (λ y. not (p y)) (λ y. refl) xs)
 
--- if no page was last used at this use, none was until after it
-pub later : (t : ℕ) (xs : List Page) → NotBefore t xs ≡ true → filter (λ (p : Page). t == p.used) xs ≡ [] → NotBefore (t + 1) xs ≡ true
-later t [] all none = refl
-later t (x ∷ xs) all none = grind (arith, nat_tests, common_steps, later t xs)
+  fewer_left : (xs : List T) → list_any p xs ≡ true → length (filter (λ y. not (p y)) xs) < length xs
+  fewer_left [] some = absurd (cc some)
+  fewer_left (x ∷ xs) some = grind (arith, common_steps, fewer_left xs, shorter xs)
 
--- no page was last used both before a use and not before it
-pub empty : (t u : ℕ) (xs : List Page) → u ≤ t → NotBefore t xs ≡ true → Before u xs ≡ true → xs ≡ []
-empty t u [] le all none = refl
-empty t u (x ∷ xs) le all none = grind (arith, nat_tests, common_steps)
+  right_part : (xs ys : List T) → list_any p (xs ++ ys) ≡ false → list_any p ys ≡ false
+  right_part [] ys none = none
+  right_part (x ∷ xs) ys none = right_part xs ys (or_parts (p x) (list_any p (xs ++ ys)) none).1
 
--- the page that is found by a use was last used then
-pub used_then : (t : ℕ) (xs : List Page) (p : Page) → p ∷ [] ≡ filter (λ (q : Page). t == q.used) xs → t ≡ p.used
-used_then t [] p is = grind (arith, common_steps)
-used_then t (x ∷ xs) p is = grind (arith, nat_tests, common_steps, used_then t xs p)
+All-right : {T : Type 0} (P : T → Type 0) (gone : Option T) (xs : List T) → All P (option_to_list gone ++ xs) → All P xs
+All-right P None xs all = all
+All-right P (Some x) xs all = All-tail P x xs all
 
--- each page was last used before a later use too
-pub before_next : (t : ℕ) (xs : List Page) → Before t xs ≡ true → Before (t + 1) xs ≡ true
-before_next t [] all = refl
-before_next t (x ∷ xs) all = grind (arith, nat_tests, common_steps, before_next t xs)
+-- what was used before a use was used before the next one
+pub before_next : (t : ℕ) (xs : List Page) → All (λ (p : Page). p.used < t) xs → All (λ (p : Page). p.used < t + 1) xs
+before_next t xs all i d lt = omega (arith, all i d lt)
 
--- no other page was used longer ago
-pub oldest_of : (g : Page) (xs : List Page) → NotBefore g.used xs ≡ true → All (λ (p : Page). g.used ≤ p.used) xs
-oldest_of g [] all = All-nil (λ (p : Page). g.used ≤ p.used)
-oldest_of g (x ∷ xs) all =
-    All-cons (λ (p : Page). g.used ≤ p.used) x xs (grind (arith, nat_tests, common_steps)) (oldest_of g xs (grind (arith, nat_tests, common_steps)))
+abbrev same_number : Page → Page → Bool
+same_number x p = x.number == p.number
 
-module _ {T : Type 0} (test : T → Bool) where
-  each_passes : (xs : List T) → list_all test xs ≡ true → All (λ x. test x ≡ true) xs
-  each_passes [] all = All-nil (λ x. test x ≡ true)
-  each_passes (x ∷ xs) all = All-cons (λ x. test x ≡ true) x xs (grind (arith, common_steps)) (each_passes xs (grind (arith, common_steps)))
+abbrev same_frame : Page → Page → Bool
+same_frame x p = x.frame == p.frame
 
-  pass_all : (xs : List T) → All (λ x. test x ≡ true) xs → list_all test xs ≡ true
-  pass_all [] all = refl
-  pass_all (x ∷ xs) all = rw (All-head (λ x. test x ≡ true) x xs all) (pass_all xs (All-tail (λ x. test x ≡ true) x xs all))
+module _ (old : List Page) (x : Page) where
+  -- the pages with other numbers
+  abbrev mid : List Page
+  mid = filter (λ p. not (same_number x p)) old
 
-  -- a test that all pass does not depend on their order
-  pub list_all-permutation : (xs ys : List T) → IsPermutation xs ys → list_all test xs ≡ true → list_all test ys ≡ true
-  list_all-permutation xs ys moved all = pass_all ys (All-permutation (λ x. test x ≡ true) xs ys moved (each_passes xs all))
+  -- a page whose number and frame are free leaves all others
+  pub all_others : is_taken old x ≡ false → others old x ≡ old
+  all_others free = grind (arith, common_steps, all_left (same_number x) old, all_left (same_frame x) old)
 
-  -- and those that are left after another test pass it
-  pub list_all-filter : (p : T → Bool) (xs : List T) → list_all test xs ≡ true → list_all test (filter p xs) ≡ true
-  list_all-filter p [] all = refl
-  list_all-filter p (x ∷ xs) all = grind (arith, common_steps, list_all-filter p xs)
+  -- and one whose number or frame is taken leaves fewer
+  pub fewer_others : is_taken old x ≡ true → length (others old x) < length old
+  fewer_others taken =
+      grind (arith, common_steps, fewer_left (same_number x) old, shorter (same_frame x) mid, all_left (same_number x) old, fewer_left (same_frame x) old)
 
--- a page with a use that no page had replaces those with its number or its frame
-pub with_item-others : (xs : List Page) (x : Page) → Before x.used xs ≡ true → remainder (tests_of item_ranks x) xs ≡ others xs x
-with_item-others [] x all = refl
-with_item-others (y ∷ ys) x all = grind (arith, nat_tests, common_steps, with_item-others ys x)
+  -- no page that is left has the number or the frame
+  pub free_now : (gone : Option Page) (new : List Page) → option_to_list gone ++ new ≡ others old x → is_taken new x ≡ false
+  free_now gone new left =
+      let number = none_less (same_number x) (λ p. not (same_frame x p)) mid (none_left (same_number x) old) in
+      let one = right_part (same_number x) (option_to_list gone) new (rw left number) in
+      rw one (right_part (same_frame x) (option_to_list gone) new (rw left (none_left (same_frame x) mid)))
 
--- no more pages are left beside those that are replaced
-length-others : (xs : List Page) (x : Page) → length (others xs x) ≤ length xs
-length-others [] x = omega arith
-length-others (y ∷ ys) x = grind (arith, nat_tests, common_steps, length-others ys x)
+  -- each page that is left was used before
+  pub before_now : (t : ℕ) (gone : Option Page) (new : List Page) → option_to_list gone ++ new ≡ others old x → All (λ (p : Page). p.used < t) old
+      → All (λ (p : Page). p.used < t) new
+  before_now t gone new left all =
+      let used : All (λ (p : Page). p.used < t) (others old x) = All-filter _ (λ (p : Page). p.used < t) mid (All-filter _ (λ (p : Page). p.used < t) old all) in
+      All-right (λ (p : Page). p.used < t) gone new (rw left used)
 
--- and fewer if one is replaced
-fewer-others : (xs : List Page) (x : Page) → is_taken xs x ≡ true → length (others xs x) < length xs
-fewer-others [] x taken = absurd (cc taken)
-fewer-others (y ∷ ys) x taken = grind (arith, nat_tests, common_steps, fewer-others ys x, length-others ys x)
+  -- and with the new page before the next use
+  pub before_put : (t : ℕ) (gone : Option Page) (new : List Page) → option_to_list gone ++ new ≡ others old x → All (λ (p : Page). p.used < t) old → x.used ≡ t
+      → All (λ (p : Page). p.used < t + 1) (new ++ x ∷ [])
+  before_put t gone new left all same = All-push (λ (p : Page). p.used < t + 1) new x (before_next t new (before_now t gone new left all)) (omega (arith, same))
 
--- all are left if none is replaced
-pub all-others : (xs : List Page) (x : Page) → is_taken xs x ≡ false → others xs x ≡ xs
-all-others [] x free = refl
-all-others (y ∷ ys) x free = grind (arith, nat_tests, common_steps, all-others ys x)
+-- pages are in the order of their last uses
+abbrev pub by_use : Page → Page → Ordering
+by_use = by_sort (λ (p : Page). p.used) nat_cmp (λ (p : Page). p.number) nat_cmp
 
--- no page has the number or the frame if none conflicts
-pub free-taken : (xs : List Page) (x : Page) → conflicts_of item_ranks xs x ≡ [] → is_taken xs x ≡ false
-free-taken [] x free = refl
-free-taken (y ∷ ys) x free = grind (arith, nat_tests, common_steps, free-taken ys x)
+-- a page that was used last comes last
+pub comes_last : (xs : List Page) (x : Page) → All (λ (p : Page). p.used < x.used) xs → with_item by_use xs x ≡ xs ++ x ∷ []
+comes_last [] x all = refl
+comes_last (y ∷ ys) x all =
+    let head = All-head (λ (p : Page). p.used < x.used) y ys all in
+    let rest = comes_last ys x (All-tail (λ (p : Page). p.used < x.used) y ys all) in
+    grind (arith, nat_tests, common_steps)
 
--- a page has one of two keys if one has the first or one has the second
-pub taken-either : (xs : List Page) (x : Page) → is_taken xs x ≡ (list_any (λ (p : Page). x.number == p.number) xs || list_any (λ (p : Page). x.frame == p.frame) xs)
-taken-either [] x = refl
-taken-either (y ∷ ys) x = grind (arith, nat_tests, common_steps, taken-either ys x)
+-- the first page was used longest ago
+pub oldest : (g : Page) (xs : List Page) → IsAscending by_use (g ∷ xs) → All (λ (p : Page). g.used ≤ p.used) (g ∷ xs)
+oldest g xs up zero d lt = omega arith
+oldest g xs up (suc i) d lt = let less = up 0 (suc i) d (omega arith) lt in grind (arith, nat_tests, common_steps)
 
-module _ {T : Type 0} (p q : T → Bool) where
-  neither : (xs : List T) → filter p xs ≡ [] → filter q xs ≡ [] → filter (λ y. p y || q y) xs ≡ []
-  neither [] no_p no_q = refl
-  neither (y ∷ ys) no_p no_q = grind (arith, common_steps, neither ys)
-
-  both : (xs : List T) (x : T) → p x ≡ true → q x ≡ true → filter p xs ≡ x ∷ [] → filter q xs ≡ x ∷ [] → filter (λ y. p y || q y) xs ≡ x ∷ []
-  both [] x px qx one_p one_q = absurd (cc one_p)
-  both (y ∷ ys) x px qx one_p one_q = grind (arith, common_steps, both ys x, neither ys)
-
--- a page of the cache has its number and its frame alone
-alone : (xs : List Page) (x : Page) → IsSound item_ranks xs → Contains xs x → filter (rivals x) xs ≡ x ∷ []
-alone xs x sound there =
-    let law = λ (k l m : ℕ) (same : nat_eq k l ≡ true). nat_eq_equiv.congr k l m same in
-    let number = named_is by_number (λ (p : Page). x.number == p.number) (NamesOne-query nat_eq nat_eq (λ (p : Page). p.number) law x.number) xs x
-    (distinct_at [] (by_frame ∷ by_use ∷ []) by_number xs sound) (nat_eq_equiv.refl x.number) there in
-    let frame = named_is by_frame (λ (p : Page). x.frame == p.frame) (NamesOne-query nat_eq nat_eq (λ (p : Page). p.frame) law x.frame) xs x
-    (distinct_at (by_number ∷ []) (by_use ∷ []) by_frame xs sound) (nat_eq_equiv.refl x.frame) there in
-    both (λ (p : Page). x.number == p.number) (λ (p : Page). x.frame == p.frame) xs x (nat_eq_equiv.refl x.number) (nat_eq_equiv.refl x.frame) number frame
-
--- one page left, if any, and then one came in place of those with its number or its frame
-pub exchanged : (gone : Option Page) (old mid new : List Page) (x : Page) → IsPermutation old (option_to_list gone ++ mid)
-    → IfSome gone (λ g. is_taken old x ≡ false) → IfNone gone (mid ≡ old) → IsPermutation new (x ∷ others mid x)
-    → IsPermutation (option_to_list gone ++ new) (x ∷ others old x)
-exchanged None old mid new x left free same came = subst (λ l. IsPermutation new (x ∷ others l x)) same came
-exchanged (Some g) old mid new x left free same came =
-    let kept : is_taken (g ∷ mid) x ≡ false = sym (list_any-IsPermutation (rivals x) old (g ∷ mid) left) ∙ free in
-    let mid_free : is_taken mid x ≡ false = grind (arith, common_steps, kept) in
-    let came_to : IsPermutation new (x ∷ mid) = subst (λ l. IsPermutation new (x ∷ l)) (all-others mid x mid_free) came in
-    let one = IsPermutation-trans _ _ _ (IsPermutation-cons g _ _ came_to) (IsPermutation-middle (g ∷ []) x mid) in
-    let two = IsPermutation-trans _ _ _ one (IsPermutation-cons x _ _ (IsPermutation-sym _ _ left)) in
-    subst (λ l. IsPermutation (g ∷ new) (x ∷ l)) (sym (all-others old x free)) two
-
--- a page that is put again replaces itself alone
-pub used_last : (gone : Option Page) (old new : List Page) (x y : Page) → IsSound item_ranks old → Contains old x → IfSome gone (λ g. is_taken old x ≡ false)
-    → IsPermutation (option_to_list gone ++ new) (y ∷ others old x) → IsPermutation (x ∷ new) (y ∷ old)
-used_last None old new x y sound there free came =
-    let one = alone old x sound there in
-    let rest : IsPermutation old (x ∷ others old x) = subst (λ l. IsPermutation old (l ++ others old x)) one (IsPermutation-filter_both (rivals x) (λ p. not (rivals x p)) (λ p. refl) old) in
-    let moved = IsPermutation-trans _ _ _ (IsPermutation-cons x _ _ came) (IsPermutation-middle (x ∷ []) y (others old x)) in
-    IsPermutation-trans _ _ _ moved (IsPermutation-cons y _ _ (IsPermutation-sym _ _ rest))
-used_last (Some g) old new x y sound there free came =
-    let taken : is_taken old x ≡ true = any_listed (rivals x) old ∙ ap some_item (alone old x sound there) in
-    absurd (cc (taken, free))
-
-by_case : {P : Type 0} (b : Bool) → (b ≡ true → P) → (b ≡ false → P) → P
-by_case true if_true if_false = if_true refl
-by_case false if_true if_false = if_false refl
-
--- the limit holds after a page came, if there was a place for it or it replaced one
-pub within : (mid new : List Page) (x : Page) (limit : ℕ) → length mid ≤ limit → (is_taken mid x ≡ false → length mid < limit) → IsPermutation new (x ∷ others mid x) → length new ≤ limit
-within mid new x limit most place came =
-    by_case (is_taken mid x)
-    (λ taken. omega (arith, length_permutation new (x ∷ others mid x) came, fewer-others mid x taken))
-    (λ free. omega (arith, length_permutation new (x ∷ others mid x) came, length-others mid x, place free))
-
--- no memory was asked for then
-pub same_room : (mid : List Page) (x : Page) (old new : ℕ) → (is_taken mid x ≡ false → length mid < old) → (length mid < old → new ≡ old) → (conflicts_of item_ranks mid x ≢ [] → new ≡ old) → new ≡ old
-same_room mid x old new place below above =
-    by_case (is_taken mid x)
-    (λ taken. above (λ free. absurd (cc (taken, free-taken mid x free))))
-    (λ free. below (place free))
-
--- each page was last used before the next use
-pub before_put : (t : ℕ) (mid new : List Page) (x : Page) → x.used ≡ t → Before t mid ≡ true → IsPermutation new (x ∷ others mid x) → Before (t + 1) new ≡ true
-before_put t mid new x is all came =
-    let rest = before_next t (others mid x) (list_all-filter (λ (p : Page). nat_lt p.used t) (λ p. not (rivals x p)) mid all) in
-    let whole : Before (t + 1) (x ∷ others mid x) ≡ true = grind (arith, nat_tests, common_steps, rest) in
-    list_all-permutation (λ (p : Page). nat_lt p.used (t + 1)) (x ∷ others mid x) new (IsPermutation-sym _ _ came) whole
-
-pub not_before_put : (t : ℕ) (mid new : List Page) (x : Page) → t ≤ x.used → NotBefore t mid ≡ true → IsPermutation new (x ∷ others mid x) → NotBefore t new ≡ true
-not_before_put t mid new x le all came =
-    let rest = list_all-filter (λ (p : Page). nat_le t p.used) (λ p. not (rivals x p)) mid all in
-    let whole : NotBefore t (x ∷ others mid x) ≡ true = grind (arith, nat_tests, common_steps, rest) in
-    list_all-permutation (λ (p : Page). nat_le t p.used) (x ∷ others mid x) new (IsPermutation-sym _ _ came) whole
-
--- what all pages pass, those that are left pass
-pub left_pass : (test : Page → Bool) (g : Page) (old new : List Page) → IsPermutation old (g ∷ new) → list_all test old ≡ true → list_all test new ≡ true
-left_pass test g old new gone all =
-    let whole = list_all-permutation test old (g ∷ new) gone all in
-    grind (arith, common_steps, whole)
-
--- what an overwrite by a page with a new use says, in the words of the cache
-pub came_in : (mid new : List Page) (x : Page) → Before x.used mid ≡ true → IsPermutation new (with_item item_ranks mid x) → IsPermutation new (x ∷ others mid x)
-came_in mid new x all came = subst (λ l. IsPermutation new (x ∷ l)) (with_item-others mid x all) came
-
--- nothing left an empty cache, so the one page that came is all
-pub alone_there : (gone : Option Page) (old new : List Page) (x : Page) (limit : ℕ) → 0 < limit → old ≡ [] → IfSome gone (λ g. length old ≡ limit)
-    → IsPermutation (option_to_list gone ++ new) (x ∷ others old x) → IsPermutation new (x ∷ [])
-alone_there None old new x limit some none full came = rw none at came
-alone_there (Some g) old new x limit some none full came = absurd (omega (arith, full, ap (λ (l : List Page). length l) none))
-
-pub if_some : {X : Type 0} (P Q : X → Type 0) (o : Option X) → ((x : X) → P x → Q x) → IfSome o P → IfSome o Q
-if_some P Q None f h = h
-if_some P Q (Some x) f h = f x h
-
-pub if_none : {X P Q : Type 0} (o : Option X) → (P → Q) → IfNone o P → IfNone o Q
-if_none None f h = f h
-if_none (Some x) f h = h
+-- a page that was found comes last, with another use, and all other pages stay
+pub used_again : (test : Page → Bool) (old new : List Page) (p x found : Page) → Contains old p → test p ≡ true → found ∷ [] ≡ filter test old
+    → All (λ (q : Page). q.used < x.used) old → new ≡ with_item by_use (filter (λ q. not (test q)) old) x → IsPermutation (p ∷ new) (x ∷ old)
+used_again test old new p x found there passes only all is =
+    let rest = filter (λ q. not (test q)) old in
+    let one : filter test old ≡ p ∷ [] = only_one _ p (omega (arith, ap (λ (l : List Page). length l) only)) (Contains-filter test old p passes there) in
+    let last : new ≡ rest ++ x ∷ [] = is ∙ comes_last rest x (All-filter _ (λ (q : Page). q.used < x.used) old all) in
+    let moved : IsPermutation (p ∷ new) (x ∷ p ∷ (rest ++ [])) = rw last (IsPermutation-middle (p ∷ rest) x []) in
+    IsPermutation-trans _ _ _ (rw (append-nil rest) at moved) (IsPermutation-cons x _ _ (IsPermutation-sym _ _ (IsPermutation-only test old p (sym one))))

@@ -1,5 +1,5 @@
 //! What differs between two maps.
-ghost use Rattle.std.specs.Prelude.{◌≡◌, ◌==◌, IfOk};
+ghost use Rattle.std.specs.Prelude.{◌≡◌, ◌==◌, IfOk, filter, length, not};
 ghost use Rattle.std.specs.Prelude.{map as each};
 ghost use Rattle.iddqd_bi.specs.Differing.{IsDifference, unpaired};
 ghost use Rattle.iddqd_bi.specs.Map.{bag};
@@ -58,17 +58,13 @@ pub fn to_start<'s>(
 }
 
 /// Returns how many services are to be restarted: those that changed and kept their number.
-pub fn count_changed(
-    old: &BiHashMap<Service>,
-    new: &BiHashMap<Service>,
-    alloc: Global,
-) -> Result<usize, AllocError> {
-    let difference = changes(old, new, alloc)?;
-    Ok(
-        difference
-            .common
-            .iter()
-            .filter(|pair| pair.is_modified())
-            .count(),
-    )
+pub fn count_changed(difference: &Difference<'_, Service>) -> usize
+    ensures { result ≡ length (filter (λ pair. not (⟦<Service as PartialEq>⟧.eq pair.before.now pair.after.now))
+        difference.now.common.items) }
+{
+    difference
+        .common
+        .iter()
+        .filter(|pair| pair.is_modified())
+        .count()
 }

@@ -1,11 +1,12 @@
 //! Logins, each known by its number and by its token, in the order of the times at which they were last seen.
-ghost use Rattle.std.specs.Prelude.{◌≡◌, ◌<◌, ◌==◌, ◌∷◌, true, false, filter, nat_eq, nat_le, length, slice_get, IsOk, OnOk, OnErr, IfErr, IfSome, IfNone, option_copied, []};
+ghost use Rattle.std.specs.Prelude.{◌≡◌, ◌<◌, ◌==◌, ◌∷◌, false, filter, nat_eq, nat_le, length, slice_get, IsOk, OnOk, OnErr, IfErr, IfSome, IfNone, option_copied, []};
+ghost use Rattle.std.proofs.Common.{rules};
 ghost use Rattle.std.specs.List.{list_any};
 ghost use Rattle.std.specs.Ordering.{nat_cmp};
 ghost use Rattle.iddqd_store.specs.Bag.{IsOnly, conflicts_of};
 ghost use Rattle.iddqd_sorted.specs.Items.{by_sort, items, with_item};
 
-use iddqd_bi::{BiHashItem, Ranked, Rejected};
+use iddqd_bi::{BiHashItem, BiHashItemMut, Ranked, Rejected};
 use iddqd_sorted::{BiHashOrdMap, Iter, Sortable};
 
 /// A login, with the time at which it was last seen.
@@ -34,6 +35,24 @@ impl BiHashItem for Login {
     }
 }
 
+impl BiHashItemMut for Login {
+    type Data = u64;
+
+    ghost data_of = { λ l. l.seen };
+
+    ghost put = { λ l seen. record l { seen = seen } };
+
+    fn data_mut(&mut self) -> &mut u64 {
+        &mut self.seen
+    }
+
+    ghost keeps_key1 = { Prim.search rules };
+
+    ghost keeps_key2 = { Prim.search rules };
+
+    ghost put_shows = { Prim.search rules };
+}
+
 impl Sortable for Login {
     type SortKey = u64;
 
@@ -54,6 +73,8 @@ pub fn open(logins: &mut Logins, login: Login) -> Result<(), Rejected<Login>>
         ≡ with_item (by_sort (λ l. l.seen) nat_cmp (λ l. l.number) nat_cmp) (items logins.old) login) }
     ensures granted { conflicts_of ⟦<Login as Ranked>⟧.ranks (items logins.old) login ≡ []
         → length (items logins.old) < logins.old.capacity → IsOk result }
+    ensures number_taken { IfErr result (λ e. e.taken1 ≡ list_any (λ l. login.number == l.number) (items logins.old)) }
+    ensures token_taken { IfErr result (λ e. e.taken2 ≡ list_any (λ l. login.token == l.token) (items logins.old)) }
     ensures handed_back { IfErr result (λ e. e.item ≡ login) }
     ensures unchanged { OnErr result (logins.new ≡ logins.old) }
 {
@@ -67,15 +88,14 @@ pub fn by_token(logins: &Logins, token: u64) -> Option<&Login>
     logins.get2(&token)
 }
 
-/// Notes that the login with this token was seen now, and returns whether there is one. No table is written.
+/// Notes that the login with this token was seen now, and returns whether there is one. The login moves to the place of this time, and
+/// no table is written.
 pub fn touch(logins: &mut Logins, token: u64, now: u64) -> bool
+    ensures found { result ≡ list_any (λ l. token == l.token) (items logins.old) }
     ensures unchanged { result ≡ false → logins.new ≡ logins.old }
     ensures capacity { logins.new.capacity ≡ logins.old.capacity }
 {
-    let Some(login) = logins.get2(&token).copied() else {
-        return false;
-    };
-    logins.replace(Login { seen: now, ..login }).is_ok()
+    logins.update2(&token, |_| now)
 }
 
 /// Closes the logins that have not been seen since this time. The call looks at these alone, and at one more.

@@ -1,14 +1,18 @@
 //! One side of a book of orders: the quantity at each price, in the order of the prices.
-ghost use Rattle.std.specs.Prelude.{◌≡◌, ◌∷◌, ◌-◌, ◌==◌, if◌then◌else◌, [], IfOk, IfSome, IfNone, OnOk, OnErr, filter, length, map, nat_le, nat_lt, not, option_copied, slice_get};
+ghost use Rattle.std.specs.Prelude.{◌≡◌, ◌∷◌, ◌+◌, ◌*◌, ◌-◌, ◌==◌, if◌then◌else◌, [], IfOk, IfSome, IfNone, OnOk, OnErr, filter, length, map, nat_le, nat_lt, not, option_copied, reverse, slice_get, take};
 ghost use Rattle.std.proofs.Common.{rules};
+ghost use Rattle.std.specs.Cmp.{nat_cmp_total};
 ghost use Rattle.std.specs.List.{list_any};
-ghost use Rattle.std.specs.Ordering.{nat_cmp};
+ghost use Rattle.std.specs.Ordering.{is_eq, nat_cmp};
 ghost use Rattle.iddqd_ord.specs.Bag.{IsOnly};
 ghost use Rattle.iddqd_ord.specs.Items.{items, with_item};
+ghost use Rattle.iddqd_ord.specs.Ordered.{IsRising-key};
 
-use iddqd_ord::{IdOrdItem, IdOrdItemMut, IdOrdMap, Iter, MemoryRefused};
+use iddqd_ord::{IdOrdItem, IdOrdItemMut, IdOrdMap, Iter, MemoryRefused, OrdQuery};
+use std::alloc::{AllocError, Global};
+use std::cmp::Ordering;
 
-/// A price, and the quantity of all orders at it.
+/// A price in cents, and the quantity of all orders at it.
 #[derive(Drop)]
 pub struct Level {
     pub price: u64,
@@ -104,4 +108,56 @@ pub fn remove_empty(levels: &mut IdOrdMap<Level>)
     ensures { items levels.new ≡ filter (λ l. nat_lt 0 l.quantity) (items levels.old) }
 {
     levels.retain(|level| 0 < level.quantity);
+}
+
+/// Returns the highest level below a price, if there is one.
+pub fn highest_below(levels: &IdOrdMap<Level>, price: u64) -> Option<&Level>
+    ensures { option_copied result ≡ slice_get (filter (λ l. nat_lt l.price price) (items levels.now))
+        (length (filter (λ l. nat_lt l.price price) (items levels.now)) - 1) }
+{
+    levels.range(..&price).next_back()
+}
+
+/// Returns how many levels there are at a price or above it.
+pub fn count_from(levels: &IdOrdMap<Level>, price: u64) -> usize
+    ensures { result ≡ length (filter (λ l. nat_le price l.price) (items levels.now)) }
+{
+    levels.range(&price..).count()
+}
+
+/// Returns the best levels of the buyers, the very best first: `most` of them, or fewer if there are fewer.
+pub fn best_bids(
+    alloc: Global,
+    bids: &IdOrdMap<Level>,
+    most: usize,
+) -> Result<Vec<&Level>, AllocError>
+    ensures { IfOk result (λ v. map (λ l. l.now) v.items ≡ take most (reverse (items bids.now))) }
+{
+    bids.iter().rev().take(most).collect(alloc)
+}
+
+/// A price as it is written: a query type of its own.
+#[derive(Clone, Copy)]
+pub struct Price {
+    pub euros: u32,
+    pub cents: u8,
+}
+
+impl OrdQuery<u64> for Price {
+    ghost compare = { λ q price. nat_cmp price (100 * q.euros + q.cents) };
+
+    fn compare(&self, price: &u64) -> Ordering {
+        let sought = 100 * self.euros as u64 + self.cents as u64;
+        price.cmp(&sought)
+    }
+
+    ghost rises = { λ q. IsRising-key nat_cmp_total (λ price. price) (100 * q.euros + q.cents) };
+}
+
+/// Returns the level at a price, if there is one.
+pub fn level_at(levels: &IdOrdMap<Level>, price: Price) -> Option<&Level>
+    ensures { IsOnly (λ l. is_eq (nat_cmp l.price (100 * price.euros + price.cents))) (items levels.now)
+        (option_copied result) }
+{
+    levels.get(price)
 }

@@ -1,32 +1,30 @@
 //! Reads lines about the steps of a plan, and answers each.
 //!
-//!     book TIME NAME        ok | time taken
-//!     at TIME               TIME NAME | none
-//!     at HOURS MINUTES      TIME NAME | none
+//!     book TIME NAME        ok
+//!     at TIME               TIME NAME of each step that is due at this time | none
+//!     at HOURS MINUTES      the same, for this time of the day
 //!     next TIME             TIME NAME of the first step that is due at this time or later | none
 //!     between FROM BEFORE   TIME NAME of each step that is due from a time on and before another one | none
-//!     cancel TIME           TIME NAME | none
+//!     cancel TIME           TIME NAME of the first step that is due at this time, which is removed | none
 //!     start TIME            TIME NAME of each step that is due by then, which is removed | none
 //!     last                  TIME NAME | none
 //!     count                 how many steps there are
 //!
-//! A time is a number, of minutes where the hours matter. Any other line is answered by `bad line`, also one that is not UTF-8.
+//! A time is a number, of minutes where the hours matter. Steps that are due at the same time come in the order in which they
+//! were booked. Any other line is answered by `bad line`, also one that is not UTF-8.
 #![tactic(auto)]
 
 ghost use Rattle.std.specs.Prelude.{◌≡◌, ◌==◌, true, OnOk};
 ghost use Rattle.std.specs.List.{list_any};
-ghost use Rattle.iddqd_ord.specs.Items.{items};
+ghost use Rattle.iddqd_sorted.specs.Items.{items};
 
 mod book;
-mod calendar;
-mod clock;
 mod files;
 mod planner;
 mod terms;
 
-use crate::clock::{Clock, at_clock};
-use crate::planner::{Step, at, between, book, cancel, next_due, start_next};
-use iddqd_ord::{IdOrdMap, Rejected};
+use crate::planner::{Plan, Step, at, between, book, cancel, next_due, start_next};
+use iddqd_sorted::Iter;
 use std::alloc::AllocError;
 use std::io;
 use std::io::BufRead;
@@ -35,7 +33,6 @@ use std::io::BufRead;
 enum Command<'l> {
     Book(u64, &'l str),
     At(u64),
-    AtClock(Clock),
     Next(u64),
     Between(u64, u64),
     Cancel(u64),
@@ -49,10 +46,10 @@ fn parse<'l>(words: &[&'l str]) -> Option<Command<'l>> {
     Some(match words {
         ["book", time, name] => Command::Book(time.parse().ok()?, name),
         ["at", time] => Command::At(time.parse().ok()?),
-        ["at", hours, minutes] => Command::AtClock(Clock {
-            hours: hours.parse().ok()?,
-            minutes: minutes.parse().ok()?,
-        }),
+        ["at", hours, minutes] => {
+            let (hours, minutes): (u8, u8) = (hours.parse().ok()?, minutes.parse().ok()?);
+            Command::At(60 * hours as u64 + minutes as u64)
+        }
         ["next", time] => Command::Next(time.parse().ok()?),
         ["between", from, before] => Command::Between(from.parse().ok()?, before.parse().ok()?),
         ["cancel", time] => Command::Cancel(time.parse().ok()?),
@@ -71,44 +68,46 @@ fn show(rt: &impl Print, found: Option<&Step>) -> io::Result<()> {
     }
 }
 
-/// Books a step. If there is no memory for it, the error says so, and the program ends. So a step is due at that time once
-/// the line is answered.
-fn answer_book(
-    rt: &(impl Print + AllocGlobal),
-    steps: &mut IdOrdMap<Step>,
-    due: u64,
-    name: &str,
-) -> io::Result<()>
-    ensures there { OnOk result (list_any (λ s. s.due == due) (items steps.new) ≡ true) }
-{
-    let step = Step {
-        due,
-        name: name.to_string(rt.alloc())?,
-    };
-    match book(steps, step) {
-        Ok(()) => rt.println("ok"),
-        Err(Rejected { taken: true, .. }) => rt.println("time taken"),
-        Err(_) => Err(AllocError.into()),
-    }
-}
-
-/// Prints the steps that are due from a time on and before another one.
-fn answer_between(
-    rt: &impl Print,
-    steps: &IdOrdMap<Step>,
-    from: u64,
-    before: u64,
-) -> io::Result<()> {
+/// Prints steps.
+fn show_all(rt: &impl Print, steps: Iter<'_, Step>) -> io::Result<()> {
     let mut shown = false;
-    for step in between(steps, from, before) {
+    for step in steps {
         show(rt, Some(step))?;
         shown = true;
     }
     if shown { Ok(()) } else { rt.println("none") }
 }
 
+/// Books a step under the number of its line. If there is no memory for it, the error says so, and the program ends. So a step
+/// is due at that time once the line is answered.
+fn answer_book(
+    rt: &(impl Print + AllocGlobal),
+    steps: &mut Plan,
+    number: u64,
+    due: u64,
+    name: &str,
+) -> io::Result<()>
+    ensures there { OnOk result (list_any (λ s. s.due == due) (items steps.new) ≡ true) }
+{
+    let name = name.to_string(rt.alloc())?;
+    match book(steps, Step { number, due, name }) {
+        Ok(()) => rt.println("ok"),
+        Err(_) => Err(AllocError.into()),
+    }
+}
+
+/// Cancels the first step that is due at this time, and prints it.
+fn answer_cancel(rt: &impl Print, steps: &mut Plan, time: u64) -> io::Result<()> {
+    let Some(step) = at(steps, time).next() else {
+        return rt.println("none");
+    };
+    let number = step.number;
+    let gone = cancel(steps, number);
+    show(rt, gone.as_ref())
+}
+
 /// Starts the steps that are due by now, the earliest first.
-fn answer_start(rt: &impl Print, steps: &mut IdOrdMap<Step>, now: u64) -> io::Result<()> {
+fn answer_start(rt: &impl Print, steps: &mut Plan, now: u64) -> io::Result<()> {
     let mut started = false;
     for _ in 0..steps.len() {
         let Some(step) = start_next(steps, now) else {
@@ -123,32 +122,30 @@ fn answer_start(rt: &impl Print, steps: &mut IdOrdMap<Step>, now: u64) -> io::Re
     Ok(())
 }
 
-/// Carries out a command, and prints the answer.
+/// Carries out the command of a line with this number, and prints the answer.
 fn answer(
     rt: &(impl Print + AllocGlobal),
-    steps: &mut IdOrdMap<Step>,
+    steps: &mut Plan,
+    number: u64,
     command: Command,
 ) -> io::Result<()> {
     match command {
-        Command::Book(time, name) => answer_book(rt, steps, time, name),
-        Command::At(time) => show(rt, at(steps, time)),
-        Command::AtClock(clock) => show(rt, at_clock(steps, clock)),
+        Command::Book(time, name) => answer_book(rt, steps, number, time, name),
+        Command::At(time) => show_all(rt, at(steps, time)),
         Command::Next(time) => show(rt, next_due(steps, time)),
-        Command::Between(from, before) => answer_between(rt, steps, from, before),
-        Command::Cancel(time) => {
-            let gone = cancel(steps, time);
-            show(rt, gone.as_ref())
-        }
+        Command::Between(from, before) => show_all(rt, between(steps, from, before)),
+        Command::Cancel(time) => answer_cancel(rt, steps, time),
         Command::Start(now) => answer_start(rt, steps, now),
         Command::Last => show(rt, steps.last()),
-        Command::Count => println!(rt; "{}", steps.iter().count()),
+        Command::Count => println!(rt; "{}", steps.len()),
     }
 }
 
-/// Carries out the command of a line, and prints the answer.
+/// Carries out the command of a line with this number, and prints the answer.
 fn answer_line(
     rt: &(impl Print + AllocGlobal),
-    steps: &mut IdOrdMap<Step>,
+    steps: &mut Plan,
+    number: u64,
     line: &[u8],
 ) -> io::Result<()> {
     let Ok(line) = str::from_utf8(line) else {
@@ -156,23 +153,22 @@ fn answer_line(
     };
     let words: Vec<&str> = line.split_whitespace().collect(rt.alloc())?;
     match parse(words.as_slice()) {
-        Some(command) => answer(rt, steps, command),
+        Some(command) => answer(rt, steps, number, command),
         None => rt.println("bad line"),
     }
 }
 
 /// Answers each line of the input.
-fn answer_lines(
-    rt: &(impl Print + Input + AllocGlobal),
-    steps: &mut IdOrdMap<Step>,
-) -> io::Result<()> {
+fn answer_lines(rt: &(impl Print + Input + AllocGlobal), steps: &mut Plan) -> io::Result<()> {
+    let mut number: u64 = 0;
     for line in rt.reader().split(rt.alloc(), b'\n') {
-        answer_line(rt, steps, line?.as_slice())?;
+        number = number.saturating_add(1);
+        answer_line(rt, steps, number, line?.as_slice())?;
     }
     Ok(())
 }
 
 fn main(rt: HostRuntime) -> io::Result<()> {
-    let mut steps = IdOrdMap::new(rt.alloc());
+    let mut steps = Plan::new(rt.alloc());
     answer_lines(&rt, &mut steps)
 }

@@ -1,3 +1,4 @@
+mod Loading
 mod OrderLemmas
 mod Paying
 mod Swapping

@@ -1,30 +1,32 @@
-use Rattle.std.specs.Prelude.{◌≡◌, ◌≤◌, ◌-◌, All, Contains, false, length}
-use Rattle.std.proofs.Common.{arith, subst}
-use Rattle.iddqd_tri.specs.Map.{bag}
-use Rattle.example_cache.specs.Uses.{is_taken}
+use Rattle.std.specs.Prelude.{◌≡◌, ℕ, ◌+◌, ◌-◌, [], ◌∷◌, List, length, Contains}
+use Rattle.std.proofs.Common.{ap, arith, refl, subst}
+use Rattle.std.proofs.lemmas.List.{length-append}
+use Rattle.std.proofs.lemmas.List.Elements.{Contains-push}
+use Rattle.iddqd_sorted.specs.Items.{items}
 use Rattle.example_cache.specs.declared.pages.Page.{Page}
-use Rattle.example_cache.proofs.Uses.{alone_there, if_some}
+use Rattle.example_cache.proofs.Uses.{before_now, before_put}
 use Rattle.example_cache.proofs.pages.Cache.put.Goals as goal
 
-pub returns-clause-entered : goal.returns-clause-entered
-returns-clause-entered c = λ below. rw (c.keep_counting.ensures.stays below) at c.enter.ensures.entered
+-- the page as it goes in
+abbrev stamped : Page → ℕ → Page
+stamped page clock = record page { used = clock }
 
-pub returns-clause-evicted : goal.returns-clause-evicted
-returns-clause-evicted c =
-    if_some _ (λ (g : Page). (length (bag c.args.self.now.pages) ≡ c.args.self.now.limit) × (is_taken (bag c.args.self.now.pages) c.args.page ≡ false)
-    × All (λ (p : Page). g.used ≤ p.used) (bag c.args.self.now.pages)) c.enter.result
-    (λ g h. let same = c.keep_counting.ensures.kept (omega (arith, h.0, c.keep_counting.new.self.some)) in rw same at h)
-    c.enter.ensures.evicted
+pub insert-requires-2-clause-before : goal.insert-requires-2-clause-before
+insert-requires-2-clause-before c =
+    before_now _ (stamped c.args.page c.args.self.now.clock) c.args.self.now.clock _ _ c.make_place-gone.ensures.gone c.args.self.now.before
 
--- at the end of the count
-pub returns-clause-begins_anew : goal.returns-clause-begins_anew
-returns-clause-begins_anew c = λ at_end.
-    let mid = c.keep_counting.new.self in
-    let full = if_some _ (λ (g : Page). length (bag mid.pages) ≡ mid.limit) c.enter.result (λ g h. h.0) c.enter.ensures.evicted in
-    alone_there c.enter.result (bag mid.pages) (bag c.enter.new.self.pages) (record c.args.page { used = 0 }) mid.limit mid.some (c.keep_counting.ensures.anew at_end) full
-    (rw (c.keep_counting.ensures.clock at_end) at c.enter.ensures.entered)
+pub invariant_of-self-2-clause-before : goal.invariant_of-self-2-clause-before
+invariant_of-self-2-clause-before c =
+    rw c.insert-2.ensures.came (before_put _ (stamped c.args.page c.args.self.now.clock) c.args.self.now.clock _ _ c.make_place-gone.ensures.gone c.args.self.now.before refl)
+
+pub invariant_of-self-2-clause-bounded : goal.invariant_of-self-2-clause-bounded
+invariant_of-self-2-clause-bounded c =
+    let came = ap (λ (pages : List Page). length pages) c.insert-2.ensures.came in
+    let long = length-append (items c.make_place-gone.new.pages) (stamped c.args.page c.args.self.now.clock ∷ []) in
+    omega (arith, came, long, c.make_place-gone.ensures.place)
 
 pub returns-clause-newest : goal.returns-clause-newest
 returns-clause-newest c =
-    let at : c.keep_counting.new.self.clock ≡ c.enter.new.self.clock - 1 = omega (arith, c.enter.ensures.clock) in
-    subst (λ t. Contains (bag c.enter.new.self.pages) (record c.args.page { used = t })) at c.enter.ensures.newest
+    let clock = c.args.self.now.clock in
+    let at : clock ≡ clock + 1 - 1 = omega arith in
+    subst (λ t. Contains (items c.insert-2.new.pages) (stamped c.args.page t)) at (rw c.insert-2.ensures.came (Contains-push _ (stamped c.args.page clock)))
