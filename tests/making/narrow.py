@@ -19,7 +19,7 @@ import widen  # noqa: E402
 from widen import NAME, is_balanced, matches, numbers, text_of, words_of  # noqa: E402
 
 RENAMED = [
-    (r"\b(iddqd|iddqd_serde|caller|test|test_calls)_bi\b", r"\1_id"), (r"\bbi_(?=\w)", "id_"), (r"Bi(?=Hash|Item)", "Id"),
+    (r"\b(iddqd|caller|test|test_calls)_bi\b", r"\1_id"), (r"\bbi_(?=\w)", "id_"), (r"Bi(?=Hash|Item)", "Id"),
     (r"\btwo(?=[ _]keys?\b)", "one"), (r"\bTwo(?=[ _]keys?\b)", "One"), (r"\b([Oo]ne[ _]key)s\b", r"\1"),
     (r"\bA (?=`Id)", "An "), (r"(?<=rank < )2\b|(?<=KEYS: usize = )2\b", "1"), (r"\b(conflicting|conflicts_of)-both\b", r"\1-key"), (r"\bwith both keys\b", "with the key"),
     # The items that several keys found, held for writing, are one item, held by its guard.
@@ -30,6 +30,8 @@ RENAMED = [
     (r"(?<!-> )(?<![\w>])\(([\w:]+(?:\(\))?), \1\)", r"\1"), (r"\((\w+) × \1\)", r"\1"), (r"\b(\w+) × \1\b", r"\1"), (r"\b(ℕ|nat_eq) \1\b", r"\1"),
     (r"\bNone ∷ None(?= ∷)", "None"), (r"\b_ ∷ _ ∷ \[\]", "_ ∷ []"),
     (r"(?<=, )(None|&nothing),\s+\1(?=,?\s*(?:\)|(?:&mut Meter|meter)\b))", r"\1"),
+    # The key that is inside of another one.
+    (r"\bBy(?:Made|Pair)<(\w+)(?:, \w+)*, 2>", r"\1"),
     # The walks through each other table, and the least of all.
     (r"\(1 ∷ \[\]\)", "[]"), (r"\(min ([\w.]*)first([\w.]*) \1second\2\)", r"\1first\2"),
     # What code takes at one rank alone.

@@ -16,7 +16,7 @@ import re
 import sys
 
 RENAMED = [
-    (r"\b(iddqd|iddqd_commands|iddqd_serde|caller|test|test_calls)_bi\b", r"\1_tri"), (r"\bbi_(?=\w)", "tri_"),
+    (r"\b(iddqd|iddqd_commands|caller|test|test_calls)_bi\b", r"\1_tri"), (r"\bbi_(?=\w)", "tri_"),
     (r"\b(item[./]|kind `)bi\b", r"\1tri"),
     (r"Bi(?=Command|Hash|Item|Reply|Sink)", "Tri"), (r"\bRow2\b", "Row3"), (r"\bUpToTwo\b", "UpToThree"), (r"\bup_to_two\b", "up_to_three"),
     (r"\b([Tt])wo(?=[ _]keys?\b|Keys\b|[ _]ranks\b| at most\b)", r"\1hree"),
@@ -26,6 +26,8 @@ RENAMED = [
     # What is the same at each rank: types or proofs (if no function returns them), parts of a list, and arguments of a call.
     (r"(?<!-> )\(([\w:]+(?:\(\))?), \1\)", r"(\1, \1, \1)"), (r"\b(\w+) × \1\b", r"\1 × \1 × \1"), (r"\b(ℕ|nat_eq) \1\b", r"\1 \1 \1"),
     (r"\bNone ∷ None(?= ∷)", "None ∷ None ∷ None"), (r"\b_ ∷ _ ∷ \[\]", "_ ∷ _ ∷ _ ∷ []"),
+    # The key that is inside of another one.
+    (r"\bBy(Made|Pair)<(\w+)((?:, \w+)*), 2>", r"By\1<By\1<\2\3, 3>\3, 2>"),
     # The walks through each other table, and the least of all.
     (r"\(1 ∷ \[\]\)", "(1 ∷ 1 ∷ [])"), (r"\bmin ([\w.]*)first([\w.]*) \1second\2", r"min \1first\2 (min \1second\2 \1third\2)"),
     (r"(?<=, )(None|&nothing),\s+\1(?=,?\s*(?:\)|(?:&mut Meter|meter)\b))", r"\1, \1, \1"),

@@ -11,7 +11,7 @@ PAGES = ("docs/DEFINITIONS.md", "docs/words.md")
 # The crates whose words and labels are read, the store first, and those of which only one is: what is left out, with the reason.
 LEFT_OUT = {"text program": "its contracts cite the words of the commands", **dict.fromkeys(("caller", "test", "example"), "its words are its own")}
 # The crates whose words mean what those of the two-key text mean, with one key or three in place of two.
-OTHER_WIDTHS = {"iddqd_id", "iddqd_tri", "iddqd_commands_tri", "iddqd_serde_id", "iddqd_serde_tri"}
+OTHER_WIDTHS = {"iddqd_id", "iddqd_tri", "iddqd_commands_tri"}
 SPECS, CRATES = "specs/**/*.antt", crates(left_out=LEFT_OUT)
 # A public definition below its comment, up to an empty line or the next comment; and what a module around definitions gives them.
 DEFINITION = re.compile(r"(?P<comment>(?:^ *--.*\n)*)^(?P<indent> *)(?P<kind>abbrev pub|pub record|pub data|pub) "
@@ -23,6 +23,8 @@ LONG_TYPES = re.compile(
     r"(?<![.\w])(Entry|VacantEntry|OccupiedEntry|OccupiedEntryMut|RefMut|IterMut|InsertError|EntryRefusal)( (\w+|\([^()]*\))){3,}")
 # What a comment says of a word that the contracts of public functions do not cite; and of one that those of the maps do not.
 UNCITED, UNCITED_BY_MAPS = "No public clause cites it.", "No clause of a map cites it."
+# The traits by which a layer stands on any hash map. They hand on what private functions of the maps say, so their clauses may cite such words.
+LAYERS = "/src/slot_map.rt"
 # A list of a page, and the part of a page that explains labels.
 LIST = re.compile(r"^<!-- begin: (words|cited) (.*?) -->\n.*?^<!-- end -->$", re.M | re.S)
 LABELS = re.compile(r"^## Labels .*?\n(.*?)^## ", re.M | re.S)
@@ -133,11 +135,11 @@ def offered(text):
     return "\n".join(it.strip() for one in public for it in one.contract if not it.strip().startswith("//"))
 
 
-def clauses(crate):
+def clauses(crate, paths=None):
     """The labels of the clauses of what callers of a crate can call, each with the words of each of its clauses; and the words of specs/ that
     these clauses cite, each with its file as lists name it."""
     labels, cited = {}, set()
-    for text in map(read, files(crate)):
+    for text in map(read, files(crate) if paths is None else paths):
         lines = offered(text)
         for label, clause in CLAUSE.findall(lines):
             labels.setdefault(label, []).append({*re.findall(r"[^\W\d]\w*", clause)})
@@ -175,6 +177,10 @@ def lists():
     """The words and labels of these crates, and the lists of the pages with the words that their rows have to have."""
     words = all_words()
     labels, cited = (dict(zip(CRATES, it)) for it in zip(*map(clauses, CRATES)))
+    private = {(file, it.name) for file, of in words.items() for it in of if UNCITED in it.meaning}
+    for crate, of in cited.items():
+        elsewhere = clauses(crate, [it for it in files(crate) if not it.endswith(LAYERS)])[1]
+        of -= {it for it in of & private if it not in elsewhere}
     # The maps hand on files of the store.
     cited = {crate: {(file if file in words else re.sub(r"^\w+", "iddqd_store", file), name) for file, name in of} for crate, of in cited.items()}
     rows, told, wanted = {}, [], needed(words, set().union(*cited.values()))
