@@ -1,5 +1,5 @@
 //! Logins, each known by its number and by its token, in the order of the times at which they were last seen.
-ghost use Rattle.std.specs.Prelude.{◌≡◌, ◌<◌, ◌==◌, ◌∷◌, false, filter, nat_eq, nat_le, length, slice_get, IsOk, OnOk, OnErr, IfErr, IfSome, IfNone, option_copied, []};
+ghost use Rattle.std.specs.Prelude.{◌≡◌, ◌<◌, ◌==◌, ◌∷◌, true, false, filter, nat_eq, nat_le, length, slice_get, IsOk, OnOk, OnErr, IfErr, IfSome, IfNone, option_copied, []};
 ghost use Rattle.std.proofs.Common.{rules};
 ghost use Rattle.std.specs.List.{list_any};
 ghost use Rattle.std.specs.Ordering.{nat_cmp};
