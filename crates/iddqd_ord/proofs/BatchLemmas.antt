@@ -20,7 +20,7 @@ use Rattle.iddqd_ord.proofs.ExtendLemmas.{fold-push}
 use Rattle.iddqd_ord.proofs.LentLemmas.{item_there}
 use Rattle.iddqd_ord.proofs.MergeLemmas.{IsPermutation-moved, none_before}
 use Rattle.iddqd_ord.proofs.OrderLemmas.{ascending-insert}
-use Rattle.iddqd_ord.proofs.PartLemmas.{any-at, any-absent, inserted-split}
+use Rattle.iddqd_order.proofs.FilterLemmas.{any-at, any-absent, inserted-split}
 
 module _ {T : Type 0} where
   -- what a number names stays if the list grows

@@ -19,7 +19,7 @@ use Rattle.iddqd_ord.specs.Lent.{in_place, with_data, WritesTo}
 use Rattle.iddqd_ord.specs.Writing.{changed, map_with}
 use Rattle.iddqd_ord.specs.Ordered.{IsAscending}
 use Rattle.iddqd_ord.proofs.OrderLemmas.{ascending-set}
-use Rattle.iddqd_ord.proofs.PartLemmas.{found-split}
+use Rattle.iddqd_order.proofs.FilterLemmas.{found-split}
 
 Some-injective : {X : Type 0} {x y : X} → Some x ≡ Some y → x ≡ y
 Some-injective e = cc

@@ -9,12 +9,9 @@ pub mod LentLemmas
 pub mod MatchLemmas
 pub mod MergeLemmas
 pub mod OrderLemmas
-pub mod PartLemmas
 pub mod RangeLemmas
 pub mod RefLemmas
 pub mod RekeyLemmas
-pub mod RetainLemmas
 pub mod RewriteLemmas
 pub mod StepLemmas
 pub mod VisitLemmas
-pub mod WalkLemmas

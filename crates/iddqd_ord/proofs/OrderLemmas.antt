@@ -1,5 +1,5 @@
 -- What a search finds among items in order, and what an edit at that place does.
-use Rattle.std.proofs.Common.{◌≡◌, ◌≢◌, ℕ, ◌+◌, ◌-◌, ◌<◌, ◌≤◌, Bool, true, false, List, [], ◌∷◌, length, get_or, refl, ap, ◌∙◌, subst, arith, inl, inr}
+use Rattle.std.proofs.Common.{◌≡◌, ◌≢◌, ℕ, ◌+◌, ◌-◌, ◌<◌, ◌≤◌, Bool, true, false, List, length, get_or, refl, ap, ◌∙◌, subst, arith, inl, inr}
 use Rattle.std.specs.List.{insert, remove}
 use Rattle.std.specs.Cmp.{IsTotalOrder}
 use Rattle.std.specs.Ordering.{ordering_reverse}
@@ -9,8 +9,8 @@ use Rattle.std.specs.Prelude.{slice_set}
 use Rattle.std.proofs.lemmas.List.{length-set, get_or-set_same, get_or-set_other}
 use Rattle.std.proofs.lemmas.Bool.{cases_lt, cases_eq}
 use Rattle.std.proofs.lemmas.List.Edits.{length-insert, get_or-insert_below, get_or-insert_at, get_or-insert_above, length-remove, get_or-remove_below, get_or-remove_above}
-use Rattle.iddqd_order.specs.Search.{IsSearchable, IsSplit, IsLastEqual}
-use Rattle.iddqd_ord.specs.Ordered.{IsAscending, IsStartOf, IsRising, IsRising-key, IsSeeking, side_of, is_past}
+use Rattle.iddqd_order.specs.Search.{IsSearchable, IsSplit, IsLastEqual, side_of}
+use Rattle.iddqd_ord.specs.Ordered.{IsAscending, IsRising, IsRising-key, IsSeeking}
 
 module _ {T K : Type 0} {cmp : K → K → Ordering} (o : IsTotalOrder cmp) (key : T → K) where
   -- an item in the gap for its key keeps the order
@@ -116,30 +116,6 @@ searchable cmp key xs up compare s = record {
   ];
 }
 
--- where a search by sides ended, there is the cut
-pub IsStartOf-side : {T : Type 0} (compare : T → Ordering) (past : Bool) (xs : List T) (i : ℕ) → IsSplit (λ x. side_of past (compare x)) xs i 0 → IsStartOf (λ x. is_past past (compare x)) xs i
-IsStartOf-side compare past xs i gap = record {
-  in_range = omega (arith, gap.in_range);
-  before = λ j d lt. low past (compare (get_or xs j d)) (gap.below j d lt);
-  after = λ j d le lt. high past (compare (get_or xs j d)) (gap.above j d (omega (arith, le)) lt);
-}
-  where
-    low : (p : Bool) (o : Ordering) → side_of p o ≡ Less → is_past p o ≡ false
-    low true Less e = refl
-    low true Equal e = refl
-    low true Greater e = absurd (cc e)
-    low false Less e = refl
-    low false Equal e = absurd (cc e)
-    low false Greater e = absurd (cc e)
-
-    high : (p : Bool) (o : Ordering) → side_of p o ≡ Greater → is_past p o ≡ true
-    high true Less e = absurd (cc e)
-    high true Equal e = absurd (cc e)
-    high true Greater e = refl
-    high false Less e = absurd (cc e)
-    high false Equal e = refl
-    high false Greater e = refl
-
 -- a comparison of keys is one of items
 pub IsSeeking-at : {T K : Type 0} (cmp : K → K → Ordering) (key : T → K) (compare : K → Ordering) → IsSeeking cmp (λ k. k) compare → IsSeeking cmp key (λ x. compare (key x))
 IsSeeking-at cmp key compare s = record {
@@ -147,14 +123,3 @@ IsSeeking-at cmp key compare s = record {
   greater = λ x y lt e. s.greater (key x) (key y) lt e;
   same = λ x y e. s.same (key x) (key y) e;
 }
-
--- a search by sides finds none
-pub never_found : {T : Type 0} (compare : T → Ordering) (past : Bool) (xs : List T) (i : ℕ) → IsLastEqual (λ x. side_of past (compare x)) xs i → ⊥
-never_found compare past [] i found = absurd (omega (arith, found.split.in_range))
-never_found compare past (x ∷ xs) i found = no_side past (compare (get_or (x ∷ xs) found.first x)) (found.split.equal found.first x (omega arith) (omega arith))
-  where
-    no_side : (p : Bool) (o : Ordering) → side_of p o ≡ Equal → ⊥
-    no_side p Less e = cc e
-    no_side true Equal e = cc e
-    no_side false Equal e = cc e
-    no_side p Greater e = cc e

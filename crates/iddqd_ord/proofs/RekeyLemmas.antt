@@ -12,7 +12,7 @@ use Rattle.iddqd_ord.specs.Items.{key_comparison, has_key_of, with_item}
 use Rattle.iddqd_ord.specs.Ordered.{IsAscending, IsRising-key}
 use Rattle.iddqd_ord.specs.Rekeyed.{PutsAmong}
 use Rattle.iddqd_ord.proofs.OrderLemmas.{IsSplit-equal}
-use Rattle.iddqd_ord.proofs.PartLemmas.{any-absent, found-split, inserted-split, removed-split, replaced-split}
+use Rattle.iddqd_order.proofs.FilterLemmas.{any-absent, found-split, inserted-split, removed-split, replaced-split}
 use Rattle.iddqd_ord.specs.declared.item.IdOrdItem as item
 
 module _ {T : Type 0} (test p : T → Bool) where

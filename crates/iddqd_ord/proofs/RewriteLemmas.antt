@@ -11,7 +11,7 @@ use Rattle.iddqd_order.specs.Row.{position}
 use Rattle.iddqd_ord.specs.Calls.{FilterMaps}
 use Rattle.iddqd_ord.specs.Items.{OrdMap, items}
 use Rattle.iddqd_ord.specs.Writing.{map_with, position-written}
-use Rattle.iddqd_ord.proofs.RetainLemmas.{drop-removed, take-removed}
+use Rattle.iddqd_order.proofs.RetainLemmas.{drop-removed, take-removed}
 use Rattle.iddqd_ord.proofs.VisitLemmas.{drop-next, drop_left}
 
 -- the items from an index on, the item there being known

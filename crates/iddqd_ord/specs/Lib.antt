@@ -15,7 +15,6 @@ pub mod Queries
 pub mod RefMuts
 pub mod Rekeyed
 pub mod Updates
-pub mod Walks
 pub mod Writing
 -- The clauses of the map cite these words of the store.
 pub use Rattle.iddqd_store.specs.Bag

@@ -1,6 +1,10 @@
 pub mod CloneLemmas
+pub mod FilterLemmas
 pub mod IterLemmas
 pub mod LineLemmas
 pub mod PartLemmas
 pub mod PlaceLemmas
+pub mod RetainLemmas
 pub mod SearchLemmas
+pub mod StartLemmas
+pub mod WalkLemmas

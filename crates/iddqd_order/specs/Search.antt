@@ -1,6 +1,6 @@
 -- What a search finds. In the examples an entry is a number.
-use Rattle.std.specs.Prelude.{◌≡◌, ℕ, ◌+◌, ◌<◌, ◌≤◌, List, Option, Some, None, length, slice_index_or, true, false}
-use Rattle.std.specs.Ordering.{is_gt}
+use Rattle.std.specs.Prelude.{◌≡◌, ℕ, ◌+◌, ◌<◌, ◌≤◌, Bool, List, Option, Some, None, length, slice_index_or, true, false}
+use Rattle.std.specs.Ordering.{is_gt, is_ge}
 use Rattle.std.specs.declared.cmp.Ordering.{Ordering}
 use Rattle.std.specs.declared.cmp.Ordering.TheVariants.{Less, Equal, Greater}
 
@@ -26,6 +26,29 @@ module _ {E : Type 0} (order : E → Ordering) where
     pub more : ℕ
     pub last : first + more ≡ i
     pub split : IsSplit xs first (more + 1)
+
+-- The entries that pass the test start at this index: those before it fail, and those from it on pass. No public clause cites it.
+-- Example: Among 1, 3, 4 and for the test whether an entry is at least 3 it holds of 1.
+pub record IsStartOf {E : Type 0} (test : E → Bool) (xs : List E) (i : ℕ) : Type 0 where
+  pub in_range : i ≤ length xs
+  pub before : (j : ℕ) (d : E) → j < i → test (slice_index_or xs j d) ≡ false
+  pub after : (j : ℕ) (d : E) → i ≤ j → j < length xs → test (slice_index_or xs j d) ≡ true
+
+-- `is_past` tells of a comparison whether the entry is higher, or if `past` is false, whether it is not lower. No public clause
+-- cites it.
+-- Example: For `Equal` it is the contrary of `past`.
+abbrev pub is_past : Bool → Ordering → Bool
+is_past true o = is_gt o
+is_past false o = is_ge o
+
+-- `side_of` tells on which side of a place an entry is: of the place before the entries that are sought, or if `past`, behind
+-- them. No public clause cites it.
+-- Example: For `Equal` it is `Greater`, and if `past`, `Less`.
+abbrev pub side_of : Bool → Ordering → Ordering
+side_of past Less = Less
+side_of true Equal = Less
+side_of false Equal = Greater
+side_of past Greater = Greater
 
 -- Of so many entries, those before this index are not higher than what is sought, and those from it on are. `at k` is the
 -- comparison of the entry at `k`. No public clause cites it.

@@ -300,7 +300,8 @@ pub trait StoresData: SlotMap {
     where
         Self::Data: Drop,
         requires { IsLive (Self.shown self.old).slots slot }
-        ensures { Self.shown self.new ≡ map_with (Self.shown self.old) slot (λ x. put x d) };
+        ensures stores { Self.shown self.new ≡ map_with (Self.shown self.old) slot (λ x. put x d) }
+        ensures sound { IsSound Self.ranks (bag (Self.shown self.old)) };
 
     // With other data an item has equal keys.
     ghost keeps_keys: { (x : Self.Item) (d : Self.Data) → agrees Self.ranks x (put x d) ≡ true };

@@ -3,7 +3,7 @@ ghost use Rattle.std.specs.Prelude.{◌≡◌, ◌<◌, ◌^◌, filter, length}
 ghost use Rattle.std.specs.Map.Iter.{ShowsInOrder, ShowsInReverse, deref};
 ghost use Rattle.iddqd_ord.specs.Items.{items, is_within};
 ghost use Rattle.iddqd_ord.specs.Ordered.{IsAscending};
-ghost use Rattle.iddqd_ord.specs.Walks.{MeetsFirst, MeetsLast};
+ghost use Rattle.iddqd_order.specs.Walks.{MeetsFirst, MeetsLast};
 
 use super::IdOrdMap;
 use crate::item::IdOrdItem;

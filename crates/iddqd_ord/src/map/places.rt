@@ -6,9 +6,9 @@ ghost use Rattle.iddqd_store.specs.Bag.{IsOnly};
 ghost use Rattle.std.specs.Range.Bound.{bound_map};
 ghost use Rattle.std.specs.declared.cmp.Ordering.TheVariants.{Equal};
 ghost use Rattle.iddqd_order.specs.Row.{position, index_of, HasEntry, IsPlace};
-ghost use Rattle.iddqd_order.specs.Search.{IsSplit};
+ghost use Rattle.iddqd_order.specs.Search.{IsSplit, IsStartOf, is_past, side_of};
 ghost use Rattle.iddqd_ord.specs.Items.{items, has, query_comparison, key_comparison, is_from, is_to};
-ghost use Rattle.iddqd_ord.specs.Ordered.{IsAscending, IsStartOf, is_past, side_of};
+ghost use Rattle.iddqd_ord.specs.Ordered.{IsAscending};
 
 use super::IdOrdMap;
 use crate::item::IdOrdItem;

@@ -1,5 +1,5 @@
 -- How the items of two bags pair off, one after another.
-use Rattle.std.specs.Prelude.{◌≡◌, ◌≤◌, ◌+◌, ◌*◌, ℕ, Bool, true, false, not, ◌&&◌, ◌||◌, List, [], ◌∷◌, ◌++◌, cond, map, filter, length, sum_by, All, IsPermutation, Option}
+use Rattle.std.specs.Prelude.{◌≡◌, ◌≤◌, ◌+◌, ◌*◌, ℕ, Bool, true, false, not, ◌&&◌, ◌||◌, List, [], ◌∷◌, ◌++◌, cond, map, filter, length, All, IsPermutation, Option}
 use Rattle.std.specs.Cmp.{IsEquivalence}
 use Rattle.std.specs.List.{IsDistinct, list_any}
 use Rattle.std.proofs.Common.{refl, sym, ap, subst, ◌∙◌, arith}
@@ -12,7 +12,6 @@ use Rattle.iddqd_store.specs.Bag.{crowd}
 use Rattle.iddqd_store.specs.Differing.{SearchesEach, paired, unpaired}
 use Rattle.iddqd_store.specs.Rank.{Costs, SearchCosts}
 use Rattle.iddqd_store.specs.declared.differing.ItemPair.{ItemPair}
-use Rattle.iddqd_store.proofs.BagLemmas.Exchanges.{split}
 use Rattle.iddqd_store.proofs.BagLemmas.Sound.{none_pass, each_weaker}
 use Rattle.iddqd_store.proofs.BagLemmas.Unique.{any_listed, some_item}
 

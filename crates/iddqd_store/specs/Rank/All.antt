@@ -19,7 +19,7 @@ module _ {T : Type 0} where
   AreVacantFor (hash ∷ hashes) bag (h ∷ hs) (at ∷ spots) = IsVacantFor hash bag h at × AreVacantFor hashes bag hs spots
   AreVacantFor hashes bag hs spots = ⊥
 
-  -- `hashes_of` has for each rank the hash of the item's key. No public clause cites it.
+  -- `hashes_of` has for each rank the hash of the item's key. No clause of a map cites it.
   -- Example: For the hashes `λ x. x.0`, `λ x. x.1` and the item (1, 10) it is 1, 10.
   abbrev pub hashes_of : List (T → ℕ) → T → List ℕ
   hashes_of hashes x = map (λ hash. hash x) hashes
@@ -29,7 +29,7 @@ module _ {T : Type 0} where
   abbrev pub ArePlacesOf : List (T → ℕ) → List T → T → List Spot → Type 0
   ArePlacesOf hashes bag x spots = AreVacantFor hashes bag (hashes_of hashes x) spots
 
-  -- For each rank, the item in the slot that was found has the hash of the search. No public clause cites it.
+  -- For each rank, the item in the slot that was found has the hash of the search. No clause of a map cites it.
   abbrev pub AreHashed : List (T → ℕ) → List (Option T) → List FoundByHash → Type 0
   AreHashed hashes slots found = AllZip (λ hash at. IsHashed hash slots at) hashes found
 
@@ -75,7 +75,7 @@ pub record UniqueCosts {T : Type 0} (hash_of : T → ℕ) (bag : List T) (room h
   pub search : SearchCosts hash_of bag room hash answer before.asked between before.probed after.probed
   pub rest : after.asked ≤ between + others
 
--- The searches were made by these hashes. No public clause cites it.
+-- The searches were made by these hashes. No clause of a map cites it.
 abbrev pub HaveHashes : List ℕ → List FoundByHash → Type 0
 HaveHashes hs found = AllZip (λ h at. at.hash ≡ h) hs found
 
@@ -89,7 +89,7 @@ slots_found (Found found) = map (λ at. at.slot) found
 slots_found (Vacant spots) = map (λ _. None) spots
 
 -- Something conflicts with `x`, and searches by the hashes of its keys, one at each rank, found these slots, which are
--- those of what does. No public clause cites it.
+-- those of what does. No clause of a map cites it.
 -- Example: If `x` has the first key of the item in the slot 2, and no item has its second key, they found `Some 2`, `None`.
 pub record FindsConflicts {T S : Type 0} (ranks : Ranks T) (rank_hashes : List (T → ℕ)) (m : Map T S) (x : T)
     (searched : List FoundByHash) : Type 0 where

@@ -2,7 +2,7 @@ use Rattle.std.proofs.Common.{sym, arith}
 use Rattle.iddqd_ord.specs.Items.{items}
 use Rattle.iddqd_order.specs.Row.{position}
 use Rattle.iddqd_ord.proofs.LentLemmas.{item_there, found_only, found_replaced}
-use Rattle.iddqd_ord.proofs.PartLemmas.{absent-split}
+use Rattle.iddqd_order.proofs.FilterLemmas.{absent-split}
 use Rattle.iddqd_ord.proofs.map.IdOrdMap.find_place.Goals as goal
 
 pub returns-in-Ok-clause-found : goal.returns-in-Ok-clause-found

@@ -3,7 +3,7 @@ use Rattle.std.proofs.lemmas.List.Sorted.{IsPermutation-refl}
 use Rattle.iddqd_ord.specs.Items.{items, with_item}
 use Rattle.iddqd_ord.proofs.InsertLemmas.{IsPermutation-added}
 use Rattle.iddqd_ord.proofs.ExtendLemmas.{fold-push}
-use Rattle.iddqd_ord.proofs.PartLemmas.{found-split}
+use Rattle.iddqd_order.proofs.FilterLemmas.{found-split}
 use Rattle.iddqd_ord.proofs.map.IdOrdMap.from_iter_unique.Goals as goal
 
 pub loop-item-init : goal.loop-item-init

@@ -4,7 +4,7 @@ use Rattle.std.proofs.lemmas.List.Edits.{length-insert}
 use Rattle.iddqd_order.specs.Row.{position}
 use Rattle.iddqd_ord.specs.Items.{OrdMap, items}
 use Rattle.iddqd_ord.proofs.GapLemmas.{inserted_there}
-use Rattle.iddqd_ord.proofs.PartLemmas.{inserted-split, any-absent}
+use Rattle.iddqd_order.proofs.FilterLemmas.{inserted-split, any-absent}
 use Rattle.iddqd_ord.proofs.map.IdOrdMap.insert_or_refuse.Goals as goal
 
 pub returns-in-Err-clause-free : goal.returns-in-Err-clause-free

@@ -3,7 +3,7 @@ use Rattle.std.proofs.lemmas.Bool.{false≢true}
 use Rattle.std.proofs.lemmas.List.{length-set}
 use Rattle.iddqd_order.specs.Row.{position}
 use Rattle.iddqd_ord.specs.Items.{items}
-use Rattle.iddqd_ord.proofs.PartLemmas.{replaced-split, found-split, absent-split}
+use Rattle.iddqd_order.proofs.FilterLemmas.{replaced-split, found-split, absent-split}
 use Rattle.iddqd_ord.proofs.map.IdOrdMap.insert_overwrite_counted.Goals as goal
 
 pub returns-in-Ok-clause-displaced : goal.returns-in-Ok-clause-displaced

@@ -3,7 +3,7 @@ use Rattle.iddqd_ord.specs.Items.{items, key_comparison}
 use Rattle.iddqd_order.specs.Row.{position, HasEntry}
 use Rattle.iddqd_order.specs.declared.place.Place.{Place}
 use Rattle.iddqd_ord.proofs.LentLemmas.{item_there, found_only}
-use Rattle.iddqd_ord.proofs.PartLemmas.{absent-split, any-found}
+use Rattle.iddqd_order.proofs.FilterLemmas.{absent-split, any-found}
 use Rattle.iddqd_ord.proofs.map.IdOrdMap.insert_unique.Goals as goal
 
 some_same : {X : Type 0} {x y : X} → Some x ≡ Some y → x ≡ y

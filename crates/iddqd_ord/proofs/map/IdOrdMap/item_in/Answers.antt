@@ -1,6 +1,6 @@
 use Rattle.iddqd_ord.specs.Items.{items}
 use Rattle.iddqd_order.specs.Row.{position}
-use Rattle.iddqd_ord.proofs.RetainLemmas.{drop_here}
+use Rattle.iddqd_order.proofs.RetainLemmas.{drop_here}
 use Rattle.iddqd_ord.proofs.map.IdOrdMap.item_in.Goals as goal
 
 pub returns-clause-first : goal.returns-clause-first

@@ -1,6 +1,6 @@
 use Rattle.std.specs.Map.Iter.{deref}
 use Rattle.std_collections.proofs.IterRuns.{shows_in_order, shows_in_reverse}
-use Rattle.iddqd_ord.proofs.WalkLemmas.{meets_first, meets_last}
+use Rattle.iddqd_order.proofs.WalkLemmas.{meets_first, meets_last}
 use Rattle.iddqd_ord.proofs.map.IdOrdMap.iter.Goals as goal
 
 pub returns-clause-runs : goal.returns-clause-runs

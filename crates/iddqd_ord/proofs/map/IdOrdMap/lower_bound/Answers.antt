@@ -1,6 +1,7 @@
 use Rattle.std.proofs.Common.{false}
 use Rattle.iddqd_order.specs.Row.{line}
-use Rattle.iddqd_ord.proofs.OrderLemmas.{searchable, IsSeeking-side, IsSeeking-at, IsStartOf-side, never_found}
+use Rattle.iddqd_order.proofs.StartLemmas.{IsStartOf-side, never_found}
+use Rattle.iddqd_ord.proofs.OrderLemmas.{searchable, IsSeeking-side, IsSeeking-at}
 use Rattle.iddqd_ord.proofs.map.IdOrdMap.lower_bound.Goals as goal
 
 pub search-requires-clause-ordered : goal.search-requires-clause-ordered

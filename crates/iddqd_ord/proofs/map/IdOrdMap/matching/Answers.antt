@@ -1,7 +1,7 @@
 use Rattle.std.proofs.Common.{sym, ◌∙◌}
 use Rattle.std.specs.Map.Iter.{deref}
 use Rattle.std_collections.proofs.IterRuns.{shows_in_order, shows_in_reverse}
-use Rattle.iddqd_ord.proofs.PartLemmas.{filter-between}
+use Rattle.iddqd_order.proofs.FilterLemmas.{filter-between}
 use Rattle.iddqd_ord.proofs.MatchLemmas.{filter-sides}
 use Rattle.iddqd_ord.proofs.map.IdOrdMap.matching.Goals as goal
 

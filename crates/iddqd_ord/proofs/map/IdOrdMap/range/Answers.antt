@@ -1,8 +1,8 @@
 use Rattle.std.proofs.Common.{sym, ◌∙◌}
 use Rattle.std.specs.Map.Iter.{deref}
 use Rattle.std_collections.proofs.IterRuns.{shows_in_order, shows_in_reverse}
-use Rattle.iddqd_ord.proofs.PartLemmas.{filter-between}
-use Rattle.iddqd_ord.proofs.WalkLemmas.{meets_first, meets_last}
+use Rattle.iddqd_order.proofs.FilterLemmas.{filter-between}
+use Rattle.iddqd_order.proofs.WalkLemmas.{meets_first, meets_last}
 use Rattle.iddqd_ord.proofs.map.IdOrdMap.range.Goals as goal
 
 pub returns-clause-gives : goal.returns-clause-gives

@@ -1,5 +1,5 @@
 use Rattle.std.proofs.Common.{sym, ◌∙◌, arith}
-use Rattle.iddqd_ord.proofs.PartLemmas.{filter-between}
+use Rattle.iddqd_order.proofs.FilterLemmas.{filter-between}
 use Rattle.iddqd_ord.proofs.StepLemmas.{parts_between, rest_between, some_between}
 use Rattle.iddqd_ord.proofs.map.IdOrdMap.range_mut.Goals as goal
 

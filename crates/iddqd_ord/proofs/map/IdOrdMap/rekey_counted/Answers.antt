@@ -5,7 +5,7 @@ use Rattle.std.proofs.lemmas.Bool.{false≢true}
 use Rattle.std.proofs.lemmas.List.Edits.{length-remove}
 use Rattle.iddqd_order.specs.Row.{position}
 use Rattle.iddqd_ord.specs.Items.{items}
-use Rattle.iddqd_ord.proofs.PartLemmas.{any-absent, any-found, found-split}
+use Rattle.iddqd_order.proofs.FilterLemmas.{any-absent, any-found, found-split}
 use Rattle.iddqd_ord.proofs.RekeyLemmas.{absent_then, is_eq-not, others_taken, PutsAmong-moved, PutsAmong-replaced}
 use Rattle.iddqd_ord.proofs.map.IdOrdMap.rekey_counted.Goals as goal
 

@@ -1,6 +1,6 @@
 use Rattle.std.proofs.Common.{sym, ◌∙◌}
 use Rattle.std.proofs.lemmas.Bool.{false≢true}
-use Rattle.iddqd_ord.proofs.PartLemmas.{any-found}
+use Rattle.iddqd_order.proofs.FilterLemmas.{any-found}
 use Rattle.iddqd_ord.proofs.map.IdOrdMap.try_insert_counted.Goals as goal
 
 pub returns-in-Ok-clause-granted : goal.returns-in-Ok-clause-granted

@@ -6,8 +6,7 @@ use Rattle.std.specs.Ordering.{is_lt, is_eq, is_gt}
 use Rattle.std.specs.declared.cmp.Ordering.{Ordering}
 use Rattle.std.proofs.lemmas.Bool.{cases_lt, false≢true}
 use Rattle.std.proofs.lemmas.List.{length-drop, get_or-drop}
-use Rattle.iddqd_order.specs.Search.{IsSplit}
-use Rattle.iddqd_ord.specs.Ordered.{IsStartOf}
+use Rattle.iddqd_order.specs.Search.{IsSplit, IsStartOf}
 
 module _ {T : Type 0} (p : T → Bool) where
   here_true : (x : T) (xs : List T) → p x ≡ true → filter p (x ∷ xs) ≡ x ∷ filter p xs

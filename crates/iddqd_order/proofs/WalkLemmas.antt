@@ -4,7 +4,7 @@ use Rattle.std.specs.Option.{option_map}
 use Rattle.std.proofs.lemmas.List.{get_or-reverse, length-reverse}
 use Rattle.std.specs.Map.Iter.{deref}
 use Rattle.std_collections.proofs.IterRuns.{shows_in_order, shows_in_reverse}
-use Rattle.iddqd_ord.specs.Walks.{MeetsFirst, MeetsLast}
+use Rattle.iddqd_order.specs.Walks.{MeetsFirst, MeetsLast}
 
 module _ {A X : Type 0} (v : A → X) where
   shown : (o : Option A) (a : A) (y : X) → option_map (λ z. z) o ≡ Some a → option_map v o ≡ Some y → v a ≡ y
