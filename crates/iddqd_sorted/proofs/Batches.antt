@@ -1,84 +1,23 @@
 -- Items that are inserted one after another, and removed again by their slots.
-use Rattle.std.proofs.Common.{◌≡◌, ℕ, Bool, true, ◌+◌, ◌<◌, ◌≤◌, List, [], ◌∷◌, ◌++◌, Option, Some, None, length, get_or, refl, sym, ap, ◌∙◌, subst, arith, inl, inr}
-use Rattle.std.specs.Prelude.{Contains, IsPermutation}
-use Rattle.std.specs.List.{remove}
+use Rattle.std.proofs.Common.{◌≡◌, ℕ, Bool, true, ◌+◌, ◌<◌, ◌≤◌, List, [], ◌∷◌, ◌++◌, length, refl, sym, ap, ◌∙◌, subst, arith}
+use Rattle.std.specs.Prelude.{IsPermutation}
 use Rattle.std.specs.Cmp.{IsTotalOrder}
-use Rattle.std.specs.Ordering.{is_lt}
 use Rattle.std.specs.declared.cmp.Ordering.{Ordering}
-use Rattle.std.specs.declared.cmp.Ordering.TheVariants.{Less}
-use Rattle.std.proofs.lemmas.Bool.{false≢true, cases_lt, cases_eq}
-use Rattle.std.proofs.lemmas.Cmp.{tied_itself}
-use Rattle.std.proofs.lemmas.List.{get_or-set_other}
-use Rattle.std.proofs.lemmas.List.Edits.{length-remove, get_or-remove_below, get_or-remove_above}
+use Rattle.std.proofs.lemmas.Bool.{false≢true}
 use Rattle.std.proofs.lemmas.List.Sums.{fold_push}
 use Rattle.std.proofs.lemmas.List.Sorted.{length_permutation}
 use Rattle.iddqd_store.specs.Bag.{Ranks, AreLawful, IsSound, conflicts_of, do_conflict}
-use Rattle.iddqd_store.specs.Map.{Map, Loses}
 use Rattle.iddqd_store.specs.SlotMap.{AreAny}
-use Rattle.iddqd_store.specs.Slots.{get, contents, live_count, Updates}
 use Rattle.iddqd_store.specs.Slots.Found.{StandAt, items_at}
 use Rattle.iddqd_store.proofs.BagLemmas.Building.{AddsTo-IsPermutation, AddsTo-nil, AddsTo-push}
 use Rattle.iddqd_store.proofs.BagLemmas.Cancelled.{IsPermutation-cancelled}
 use Rattle.iddqd_store.proofs.BagLemmas.Sound.{IsSound-IsPermutation}
 use Rattle.iddqd_store.proofs.SlotLemmas.Batch.{StandAt-nil}
-use Rattle.iddqd_store.proofs.SlotLemmas.Contents.{length-contents}
-use Rattle.iddqd_sorted.specs.declared.entry.Entry.{Entry}
-use Rattle.iddqd_sorted.specs.Entries.{IsListed, items_in}
-use Rattle.iddqd_sorted.specs.Batches.{AddsInOrder, GrowsUnless}
-use Rattle.iddqd_sorted.specs.Items.{SortedValue, items, bag, with_item}
+use Rattle.iddqd_sorted.specs.Batches.{AddsInOrder}
+use Rattle.iddqd_sorted.specs.Items.{GrowsUnless, SortedValue, items, with_item}
 use Rattle.iddqd_sorted.specs.Ordered.{IsAscending}
 use Rattle.iddqd_sorted.proofs.Flags.{AreAny-permutation}
-use Rattle.iddqd_sorted.proofs.Listed.{item_at_index, Contains-listed, IsListed-removed, long}
-use Rattle.iddqd_sorted.proofs.Moving.{bare, left, left_items}
 use Rattle.iddqd_sorted.proofs.Unique.{ascending-unique}
-
-module _ {T : Type 0} {by : T → T → Ordering} (o : IsTotalOrder by) where
-  -- an item of an ascending list stands there once
-  not_again : (xs : List T) (i : ℕ) (x : T) → IsAscending by xs → i < length xs → get_or xs i x ≡ x → Contains (remove xs i) x → ⊥
-  not_again xs i x up lt here (j, within, there) =
-      let len = length-remove xs i lt in
-      let level = tied_itself o x in
-      elim (cases_lt j i) [
-        | inl below ↦
-            let first : get_or xs j x ≡ x = sym (get_or-remove_below xs i x j below lt) ∙ there in
-            let low : by (get_or xs j x) (get_or xs i x) ≡ Less = up j i x below lt in
-            false≢true (ap is_lt (sym level ∙ rw (first, here) at low))
-        | inr above ↦
-            let second : get_or xs (j + 1) x ≡ x = sym (get_or-remove_above xs i x j (omega (arith, above)) lt) ∙ there in
-            let low : by (get_or xs i x) (get_or xs (j + 1) x) ≡ Less = up i (j + 1) x (omega (arith, above)) (omega (arith, within, len, lt)) in
-            false≢true (ap is_lt (sym level ∙ rw (second, here) at low))
-      ]
-
-  module _ {K : Type 0} (sort : T → K) (slots : List (Option T)) (es : List (Entry K)) (r : IsListed by sort slots es)
-      (i : ℕ) (lt : i < length es) (e : Entry K) (is : e ≡ get_or es i e) (slot : ℕ) (x : T) (there : get slots slot ≡ Some x) (here : get_or (items_in slots es) i x ≡ x) where
-    had : get slots e.slot ≡ Some x
-    had = ap (λ (f : Entry K). get slots f.slot) is ∙ item_at_index o sort slots es r i e x lt ∙ ap Some here
-
-    -- the entry of an item of a slot names that slot
-    pub same_slot : e.slot ≡ slot
-    same_slot = elim (cases_eq e.slot slot) [
-      | inl same ↦ same
-      | inr apart ↦
-          let kept : get (bare slots e.slot x x had) slot ≡ Some x = get_or-set_other slots e.slot slot None None (λ same. apart (sym same)) ∙ there in
-          let again : Contains (items_in (bare slots e.slot x x had) (remove es i)) x = Contains-listed o sort (bare slots e.slot x x had) (remove es i) (left o sort slots es r i lt e is x x had) slot x kept in
-          absurd (not_again (items_in slots es) i x r.ascending (omega (arith, lt, long o sort slots es r)) here
-          (subst (λ (q : List T). Contains q x) (left_items o sort slots es r i lt e is x x had) again))
-    ]
-
-    -- the order without that entry lists the others
-    pub IsListed-taken : (new : List (Option T)) (gone : T) → Updates slots new slot None → IsPermutation (contents slots) (gone ∷ contents new) → IsListed by sort new (remove es i)
-    IsListed-taken new gone updates out =
-        let fewer : live_count new + 1 ≡ live_count slots = omega (arith, length_permutation _ _ out, length-contents slots, length-contents new) in
-        let at_entry : Updates slots new (get_or es i e).slot None = subst (λ (f : Entry K). Updates slots new f.slot None) is (subst (λ (s : ℕ). Updates slots new s None) (sym same_slot) updates) in
-        IsListed-removed o sort slots es r new i e lt at_entry fewer
-
-module _ {T K S : Type 0} where
-  -- a map without its order
-  abbrev pub as_map : SortedValue T K S → Map T S
-  as_map m = record { slots = m.slots; capacity = m.capacity; builder = m.builder }
-
-  pub leaves : (old new : SortedValue T K S) (gone : T) → IsPermutation (bag old) (gone ∷ bag new) → new.capacity ≡ old.capacity → new.builder ≡ old.builder → Loses (as_map old) (gone ∷ []) (as_map new)
-  leaves old new gone left room builder = record { items = left; same_room = room; same_builder = builder }
 
 -- A map became another one. Its capacity is no lower, and if `certain` holds, it is the same, and so many more items fit.
 pub record HasRoomOn {T K S : Type 0} (certain : Type 0) (more : ℕ) (old now : SortedValue T K S) : Type 0 where

@@ -1,13 +1,13 @@
 -- A map that gets the items of an iterator, one after another.
-use Rattle.std.proofs.Common.{◌≡◌, ℕ, zero, suc, ◌+◌, ◌<◌, ◌≤◌, Bool, true, false, not, cond, List, [], ◌∷◌, ◌++◌, length, refl, sym, ap, ◌∙◌, subst, arith, length-append}
+use Rattle.std.proofs.Common.{◌≡◌, ℕ, suc, ◌+◌, ◌<◌, ◌≤◌, Bool, true, false, not, cond, List, [], ◌∷◌, ◌++◌, length, sym, ap, ◌∙◌, arith, length-append}
 use Rattle.std.specs.Prelude.{filter, fold}
 use Rattle.std.specs.Ordering.{is_gt, is_lt}
 use Rattle.std.specs.declared.cmp.Ordering.{Ordering}
 use Rattle.std.specs.declared.cmp.Ordering.TheVariants.{Less, Equal, Greater}
 use Rattle.std.proofs.lemmas.List.Sums.{fold_push}
 use Rattle.iddqd_store.specs.Bag.{Ranks, do_conflict}
-use Rattle.iddqd_sorted.specs.Items.{SortedValue, items, with_item}
-use Rattle.iddqd_sorted.specs.Overwriting.{GrowsUnless, Overwrites, overwritten}
+use Rattle.iddqd_sorted.specs.Items.{GrowsUnless, SortedValue, items}
+use Rattle.iddqd_sorted.specs.Overwriting.{Overwrites, overwritten}
 
 module _ {T : Type 0} where
   fewer_pass : (p : T → Bool) (xs : List T) → length (filter p xs) ≤ length xs

@@ -1,6 +1,6 @@
 -- The item that a key finds, among the items in order.
 use Rattle.std.proofs.Common.{◌≡◌, ◌≢◌, IsSome, refl, ℕ, ◌<◌, Bool, true, false, not, List, [], ◌∷◌, Option, Some, None, length, get_or, set, sym, ap, ◌∙◌, arith}
-use Rattle.std.specs.Prelude.{◌+◌, ◌≤◌, filter, IfNone, IsPermutation}
+use Rattle.std.specs.Prelude.{◌+◌, ◌≤◌, filter, map, IfNone, IsPermutation}
 use Rattle.std.specs.List.{remove, list_any}
 use Rattle.std.specs.Cmp.{IsTotalOrder}
 use Rattle.std.specs.declared.cmp.Ordering.{Ordering}
@@ -15,7 +15,8 @@ use Rattle.iddqd_store.proofs.MapLemmas.Updating.{any_absent, any_found, found_o
 use Rattle.iddqd_store.proofs.RankLemmas.Costs.{SearchCosts-room}
 use Rattle.iddqd_store.proofs.RankLemmas.Placing.{placing}
 use Rattle.iddqd_store.proofs.SlotLemmas.Contents.{contents-take}
-use Rattle.iddqd_sorted.specs.Keyed.{RemovingCosts}
+use Rattle.iddqd_sorted.specs.Batches.{with_items}
+use Rattle.iddqd_sorted.specs.Keyed.{MapsOne, RemovingCosts, StoresOne}
 use Rattle.iddqd_sorted.specs.declared.entry.Entry.{Entry}
 use Rattle.iddqd_sorted.specs.Entries.{IsListed, items_in}
 use Rattle.iddqd_sorted.proofs.Costs.{AreSearched-room}
@@ -63,6 +64,17 @@ module _ {T K : Type 0} {by : T → T → Ordering} (o : IsTotalOrder by) (sort 
             let left = items-taken o sort slots es r slot x is p lt at bare updates ∙ others_some x is p lt at in
             let same : IsPermutation (contents bare) (filter (λ z. not (test z)) (items_in slots es)) = rw (← left) (IsPermutation-listed o sort bare (remove es p) listed) in
             (x, only_some x is, λ none. conflict (none-permutation (do_conflict ranks y) _ _ (IsPermutation-sym _ _ same) none))
+
+module _ {T D : Type 0} (answers : T → D → Type 0) (put : T → D → T) (by : T → T → Ordering) (test : T → Bool) (old : List T) where
+  -- what was stored in an item is what each function makes of it that agrees with the data
+  pub maps_some : (new : List T) → StoresOne answers put by test old new → MapsOne answers put by test old new
+  maps_some new one write makes =
+      let wrote = makes one.item one.stored (only_passes test old one.item one.only) one.answered in
+      one.lists ∙ ap (λ (xs : List T). with_items by (filter (λ y. not (test y)) old) xs) (ap (λ (x : T). x ∷ []) (sym wrote) ∙ ap (λ (xs : List T). map write xs) one.only)
+
+  -- and nothing, if no item passes
+  pub maps_none : IsOnly test old None → MapsOne answers put by test old old
+  maps_none none write makes = rw (← none) (sym (all_others test old (sym none)))
 
 -- a search for the item that is to leave, and then the searches and walks for the new one
 pub rekeying : {T : Type 0} {hash_of : T → ℕ} {hashes : List (T → ℕ)} {bag : List T} {room hash : ℕ} {hs walks : List ℕ} {before middle after : Costs} {answer : Option ℕ} (less : ℕ) → less ≤ room

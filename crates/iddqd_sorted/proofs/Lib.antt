@@ -1,7 +1,6 @@
 pub mod Batches
 pub mod Callers
 pub mod Cloning
-pub mod Coming
 pub mod Costs
 pub mod Entries
 pub mod Exchanged
@@ -10,16 +9,12 @@ pub mod Finding
 pub mod Flags
 pub mod Keyed
 pub mod Listed
-pub mod Moving
 pub mod Ordering
 pub mod Overwriting
-pub mod Parts
 pub mod Replacing
-pub mod Retaining
 pub mod Searching
 pub mod Settling
 pub mod Shrinking
 pub mod Sorting
 pub mod Staying
 pub mod Unique
-pub mod Walks

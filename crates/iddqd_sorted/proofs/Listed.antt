@@ -5,18 +5,17 @@ use Rattle.std.specs.List.{insert, remove}
 use Rattle.std.specs.Cmp.{IsTotalOrder}
 use Rattle.std.specs.Ordering.{is_lt}
 use Rattle.std.specs.declared.cmp.Ordering.{Ordering}
-use Rattle.std.specs.declared.cmp.Ordering.TheVariants.{Less, Equal, Greater}
+use Rattle.std.specs.declared.cmp.Ordering.TheVariants.{Less}
 use Rattle.std.proofs.lemmas.Bool.{false≢true, cases_lt}
 use Rattle.std.proofs.lemmas.Cmp.{tied_itself}
 use Rattle.std.proofs.lemmas.List.{get_or-set_other}
-use Rattle.std.proofs.lemmas.List.Edits.{length-insert, get_or-insert_below, get_or-insert_at, get_or-insert_above, length-remove, get_or-remove_below, get_or-remove_above}
+use Rattle.std.proofs.lemmas.List.Edits.{length-insert, length-remove, get_or-remove_below, get_or-remove_above}
 use Rattle.std.proofs.lemmas.List.Sorted.{IsPermutation-refl, IsPermutation-cons, IsPermutation-trans, Contains-permutation, length_permutation}
 use Rattle.iddqd_store.specs.Slots.{get, contents, live_count, Updates}
 use Rattle.iddqd_store.proofs.SlotLemmas.Contents.{length-contents, contents-take, content_at}
 use Rattle.iddqd_order.proofs.LineLemmas.{All-insert, All-remove}
 use Rattle.iddqd_sorted.specs.declared.entry.Entry.{Entry}
 use Rattle.iddqd_sorted.specs.Entries.{IsListed, item_in, items_in}
-use Rattle.iddqd_sorted.specs.Ordered.{IsAscending}
 use Rattle.iddqd_order.specs.Search.{IsSplit}
 use Rattle.iddqd_sorted.proofs.Entries.{item_here, length-items, items-insert, items-remove, items-same}
 use Rattle.iddqd_sorted.proofs.Ordering.{ascending-insert, ascending-remove}

@@ -1,16 +1,16 @@
 -- Lists in an order: what a search in them finds, and what an edit at that place does.
-use Rattle.std.proofs.Common.{◌≡◌, ◌≢◌, ℕ, ◌+◌, ◌-◌, ◌<◌, ◌≤◌, Bool, true, false, List, [], ◌∷◌, length, get_or, refl, sym, ap, ◌∙◌, subst, arith, inl, inr}
+use Rattle.std.proofs.Common.{◌≡◌, ◌≢◌, ℕ, ◌+◌, ◌-◌, ◌<◌, ◌≤◌, List, [], ◌∷◌, length, get_or, sym, ap, ◌∙◌, subst, arith, inl, inr}
 use Rattle.std.specs.Prelude.{slice_set}
 use Rattle.std.specs.List.{insert, remove}
 use Rattle.std.specs.Cmp.{IsTotalOrder, alike_right}
-use Rattle.std.specs.Ordering.{ordering_reverse, is_eq}
+use Rattle.std.specs.Ordering.{ordering_reverse}
 use Rattle.std.specs.declared.cmp.Ordering.{Ordering}
 use Rattle.std.specs.declared.cmp.Ordering.TheVariants.{Less, Equal, Greater}
-use Rattle.std.proofs.lemmas.Bool.{cases_lt, cases_eq, false≢true}
+use Rattle.std.proofs.lemmas.Bool.{cases_lt, cases_eq}
 use Rattle.std.proofs.lemmas.List.{length-set, get_or-set_same, get_or-set_other}
 use Rattle.std.proofs.lemmas.List.Edits.{length-insert, get_or-insert_below, get_or-insert_at, get_or-insert_above, length-remove, get_or-remove_below, get_or-remove_above}
 use Rattle.iddqd_order.specs.Search.{IsSearchable, IsLastEqual, IsSplit}
-use Rattle.iddqd_sorted.specs.Ordered.{IsAscending, IsCut, IsRising, side_of, is_past}
+use Rattle.iddqd_sorted.specs.Ordered.{IsAscending, IsRising}
 
 module _ {T : Type 0} {by : T → T → Ordering} (o : IsTotalOrder by) where
   -- an item in the gap for it keeps the order
@@ -130,38 +130,3 @@ module _ {E T : Type 0} (es : List E) (xs : List T) (long : length xs ≡ length
           equal = λ j x le lt. let same : i ≡ j = omega (arith, le, lt) in subst (λ (q : ℕ). compare (get_or xs q x) ≡ Equal) same (here x);
           above = λ j x le lt. higher _ _ (up i j x (omega (arith, le)) lt) (here x);
         }
-
--- where a search by sides ended, there is the cut
-pub IsCut-side : {T : Type 0} (compare : T → Ordering) (past : Bool) (xs : List T) (i : ℕ) → IsSplit (λ x. side_of past (compare x)) xs i 0 → IsCut (λ x. is_past past (compare x)) xs i
-IsCut-side compare past xs i gap = record {
-  in_range = omega (arith, gap.in_range);
-  before = λ j d lt. low past (compare (get_or xs j d)) (gap.below j d lt);
-  after = λ j d le lt. high past (compare (get_or xs j d)) (gap.above j d (omega (arith, le)) lt);
-}
-  where
-    low : (p : Bool) (o : Ordering) → side_of p o ≡ Less → is_past p o ≡ false
-    low true Less e = refl
-    low true Equal e = refl
-    low true Greater e = absurd (cc e)
-    low false Less e = refl
-    low false Equal e = absurd (cc e)
-    low false Greater e = absurd (cc e)
-
-    high : (p : Bool) (o : Ordering) → side_of p o ≡ Greater → is_past p o ≡ true
-    high true Less e = absurd (cc e)
-    high true Equal e = absurd (cc e)
-    high true Greater e = refl
-    high false Less e = absurd (cc e)
-    high false Equal e = refl
-    high false Greater e = refl
-
--- a search by sides finds none
-pub never_found : {E : Type 0} (compare : E → Ordering) (past : Bool) (es : List E) (i : ℕ) → IsLastEqual (λ x. side_of past (compare x)) es i → ⊥
-never_found compare past [] i found = absurd (omega (arith, found.split.in_range))
-never_found compare past (x ∷ xs) i found = no_side past (compare (get_or (x ∷ xs) i x)) (found.split.equal i x (omega (arith, found.last)) (omega (arith, found.last)))
-  where
-    no_side : (p : Bool) (o : Ordering) → side_of p o ≡ Equal → ⊥
-    no_side p Less e = cc e
-    no_side true Equal e = cc e
-    no_side false Equal e = cc e
-    no_side p Greater e = cc e

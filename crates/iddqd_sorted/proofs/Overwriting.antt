@@ -1,5 +1,5 @@
 -- An item in the place of those that conflict with it.
-use Rattle.std.proofs.Common.{◌≡◌, ◌≢◌, ℕ, ◌+◌, ◌*◌, ◌<◌, ◌≤◌, All, Bool, true, false, not, cond, List, [], ◌∷◌, ◌++◌, Option, Some, None, map, length, get_or, set, refl, sym, ap, ◌∙◌, subst, arith, length-append}
+use Rattle.std.proofs.Common.{◌≡◌, ◌≢◌, ℕ, ◌+◌, ◌*◌, ◌≤◌, Bool, true, false, not, cond, List, [], ◌∷◌, ◌++◌, Option, Some, None, map, length, get_or, set, refl, sym, ap, ◌∙◌, subst, arith, length-append}
 use Rattle.std.specs.Prelude.{filter, IsPermutation}
 use Rattle.std.specs.List.{AllByRecursion}
 use Rattle.std.specs.Option.{IfSome, option_and_then, option_to_list}
@@ -23,7 +23,6 @@ use Rattle.iddqd_store.proofs.BagLemmas.Over.{conflicts_of-taken, with_item-take
 use Rattle.iddqd_store.proofs.BagLemmas.Sound.{IsPermutation-conflicting, same_from_short}
 use Rattle.iddqd_store.proofs.RankLemmas.Walks.{walks_less}
 use Rattle.iddqd_store.proofs.SlotLemmas.Contents.{contents-take}
-use Rattle.iddqd_sorted.specs.Items.{with_item}
 use Rattle.iddqd_sorted.specs.Ordered.{IsAscending}
 use Rattle.iddqd_sorted.specs.Overwriting.{overwritten}
 use Rattle.iddqd_sorted.proofs.Entries.{length-items}

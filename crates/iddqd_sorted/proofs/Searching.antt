@@ -4,13 +4,13 @@ use Rattle.std.specs.Cmp.{IsTotalOrder}
 use Rattle.std.specs.Ordering.{ordering_then}
 use Rattle.std.specs.declared.cmp.Ordering.{Ordering}
 use Rattle.iddqd_store.specs.Slots.{get}
-use Rattle.iddqd_order.specs.Search.{IsSearchable, IsLastEqual, IsSplit, order_at}
+use Rattle.iddqd_order.specs.Search.{IsSearchable, IsLastEqual, IsSplit, order_at, IsStartOf, is_past, side_of}
 use Rattle.iddqd_sorted.specs.declared.entry.Entry.{Entry}
 use Rattle.iddqd_sorted.specs.Entries.{IsListed, items_in}
 use Rattle.iddqd_sorted.specs.Items.{by_sort}
-use Rattle.iddqd_sorted.specs.Ordered.{IsCut, is_past, side_of}
 use Rattle.iddqd_sorted.proofs.Listed.{long, item_at_index, key_at_index}
-use Rattle.iddqd_sorted.proofs.Ordering.{searchable, IsSplit-gap, IsSplit-found, IsRising-item, lower_too, higher_too, IsCut-side}
+use Rattle.iddqd_order.proofs.StartLemmas.{IsStartOf-side}
+use Rattle.iddqd_sorted.proofs.Ordering.{searchable, IsSplit-gap, IsSplit-found, IsRising-item, lower_too, higher_too}
 use Rattle.iddqd_sorted.proofs.Sorting.{total, IsRising-side}
 
 module _ {T K Key : Type 0} (sort : T → K) {cmp : K → K → Ordering} (sorts : IsTotalOrder cmp) (key : T → Key) {cmp_key : Key → Key → Ordering} (keys : IsTotalOrder cmp_key)
@@ -54,8 +54,8 @@ module _ {T K Key : Type 0} (sort : T → K) {cmp : K → K → Ordering} (sorts
     pub side_searchable : IsSearchable (λ e. side_of past (cmp e.sort_key k)) es
     side_searchable = searchable es (items_in slots es) as_many (λ e. side_of past (cmp e.sort_key k)) (λ y. side_of past (cmp (sort y) k)) beside r.ascending (IsRising-side sort sorts key keys past k)
 
-    pub side_cut : (i : ℕ) → IsSplit (λ e. side_of past (cmp e.sort_key k)) es i 0 → IsCut (λ y. is_past past (cmp (sort y) k)) (items_in slots es) i
-    side_cut i gap = IsCut-side (λ y. cmp (sort y) k) past (items_in slots es) i
+    pub side_start : (i : ℕ) → IsSplit (λ e. side_of past (cmp e.sort_key k)) es i 0 → IsStartOf (λ y. is_past past (cmp (sort y) k)) (items_in slots es) i
+    side_start i gap = IsStartOf-side (λ y. cmp (sort y) k) past (items_in slots es) i
         (IsSplit-gap es (items_in slots es) as_many (λ e. side_of past (cmp e.sort_key k)) (λ y. side_of past (cmp (sort y) k)) beside i gap)
 
 -- slots that are the same

@@ -1,5 +1,5 @@
 -- The entry of a slot: where it stands, and how it comes to its place.
-use Rattle.std.proofs.Common.{◌≡◌, ℕ, zero, suc, ◌+◌, ◌<◌, ◌≤◌, All, Bool, true, false, List, [], ◌∷◌, Option, Some, None, IsSome, is_some, length, get_or, set, refl, sym, ap, ◌∙◌, subst, arith, inl, inr}
+use Rattle.std.proofs.Common.{◌≡◌, ℕ, zero, suc, ◌+◌, ◌<◌, ◌≤◌, All, false, List, [], ◌∷◌, Option, Some, None, is_some, length, get_or, set, refl, sym, ap, ◌∙◌, arith, inl, inr}
 use Rattle.std.specs.Prelude.{Contains, IsPermutation}
 use Rattle.std.specs.List.{insert, remove, AllByRecursion, IsDistinct}
 use Rattle.std.specs.Cmp.{IsTotalOrder}
@@ -8,8 +8,7 @@ use Rattle.std.specs.declared.cmp.Ordering.{Ordering}
 use Rattle.std.specs.declared.cmp.Ordering.TheVariants.{Less, Equal, Greater}
 use Rattle.std.proofs.lemmas.Bool.{false≢true, cases_eq}
 use Rattle.std.proofs.lemmas.Cmp.{tied_itself}
-use Rattle.std.proofs.lemmas.List.{get_or-set_same, get_or-set_other}
-use Rattle.std.proofs.lemmas.List.Edits.{length-remove}
+use Rattle.std.proofs.lemmas.List.{get_or-set_other}
 use Rattle.std.proofs.lemmas.List.Sorted.{IsPermutation-sym, IsPermutation-trans, length_permutation}
 use Rattle.std.proofs.lemmas.Map.Keys.{IsDistinct-head, IsDistinct-IsPermutation}
 use Rattle.iddqd_store.specs.Slots.{get, contents, live_count, IsLive, Updates}
@@ -17,13 +16,13 @@ use Rattle.iddqd_store.proofs.BagLemmas.Sound.{none_pass}
 use Rattle.iddqd_store.proofs.SlotLemmas.Contents.{length-contents, contents-take, content_at}
 use Rattle.iddqd_order.specs.Search.{IsSearchable, IsLastEqual, IsSplit, order_at}
 use Rattle.iddqd_sorted.specs.declared.entry.Entry.{Entry}
-use Rattle.iddqd_sorted.specs.Entries.{IsListed, item_in, items_in}
+use Rattle.iddqd_sorted.specs.Entries.{IsListed, items_in}
 use Rattle.iddqd_sorted.specs.Items.{by_sort}
 use Rattle.iddqd_sorted.specs.Ordered.{IsAscending}
 use Rattle.iddqd_sorted.specs.Settled.{ListsOthers, Settles}
 use Rattle.iddqd_sorted.proofs.Finding.{passes_somewhere}
 use Rattle.iddqd_sorted.proofs.Listed.{long, item_at_index, items-inserted, IsListed-inserted, items-removed, IsListed-removed, IsPermutation-listed}
-use Rattle.iddqd_sorted.proofs.Parts.{inserted-split}
+use Rattle.iddqd_order.proofs.FilterLemmas.{inserted-split}
 use Rattle.iddqd_sorted.proofs.Searching.{item_searchable, item_found, item_gap}
 use Rattle.iddqd_sorted.proofs.Sorting.{total}
 use Rattle.iddqd_sorted.proofs.Unique.{ascending-tail, behind_first}

@@ -1,5 +1,5 @@
 -- The order by sort keys and then by first keys.
-use Rattle.std.proofs.Common.{◌≡◌, ℕ, zero, suc, ◌+◌, ◌<◌, ◌≤◌, Bool, true, false, not, cond, ◌&&◌, List, [], ◌∷◌, Option, Some, None, IsSome, length, get_or, refl, sym, ap, ◌∙◌, arith, inl, inr}
+use Rattle.std.proofs.Common.{◌≡◌, ℕ, zero, suc, ◌<◌, Bool, true, false, not, cond, ◌&&◌, List, [], ◌∷◌, Some, None, length, get_or, refl, sym, ap, ◌∙◌, arith, inl, inr}
 use Rattle.std.specs.Prelude.{Contains, filter, slice_get}
 use Rattle.std.specs.Cmp.{IsTotalOrder, alike_right, then_total, on_total}
 use Rattle.std.specs.Ordering.{is_lt, is_le, is_eq, is_ge, is_gt, ordering_then}
@@ -8,9 +8,9 @@ use Rattle.std.specs.declared.cmp.Ordering.TheVariants.{Less, Equal, Greater}
 use Rattle.std.proofs.lemmas.Bool.{false≢true, cases_lt}
 use Rattle.std.proofs.lemmas.Cmp.{tied_itself}
 use Rattle.iddqd_sorted.specs.Items.{by_sort}
-use Rattle.iddqd_sorted.specs.Ordered.{IsAscending, IsCut, IsRising, side_of}
-use Rattle.iddqd_order.specs.Search.{IsSplit}
-use Rattle.iddqd_sorted.proofs.Parts.{filter-none}
+use Rattle.iddqd_sorted.specs.Ordered.{IsAscending, IsRising}
+use Rattle.iddqd_order.specs.Search.{IsSplit, IsStartOf, side_of}
+use Rattle.iddqd_order.proofs.FilterLemmas.{filter-none}
 
 -- Where `a` compares the lower item with the higher one, `b` the higher one with what is sought, and `c` the lower one: if the
 -- higher one is on the near side, so is the lower one.
@@ -153,8 +153,8 @@ filter-same {T} p q same (x ∷ xs) = rw (same x) (by_test (q x) (filter-same p 
     by_test true more = ap (λ (ys : List T). x ∷ ys) more
     by_test false more = more
 
-pub IsCut-same : {T : Type 0} (p q : T → Bool) → ((x : T) → p x ≡ q x) → (xs : List T) (i : ℕ) → IsCut p xs i → IsCut q xs i
-IsCut-same p q same xs i cut = record {
+pub IsStartOf-same : {T : Type 0} (p q : T → Bool) → ((x : T) → p x ≡ q x) → (xs : List T) (i : ℕ) → IsStartOf p xs i → IsStartOf q xs i
+IsStartOf-same p q same xs i cut = record {
   in_range = cut.in_range;
   before = λ j d lt. sym (same (get_or xs j d)) ∙ cut.before j d lt;
   after = λ j d le lt. sym (same (get_or xs j d)) ∙ cut.after j d le lt;

@@ -6,7 +6,7 @@ use Rattle.std.specs.Cmp.{IsTotalOrder}
 use Rattle.std.specs.Ordering.{ordering_reverse, is_lt, is_eq}
 use Rattle.std.specs.declared.cmp.Ordering.{Ordering}
 use Rattle.std.specs.declared.cmp.Ordering.TheVariants.{Less, Equal, Greater}
-use Rattle.std.proofs.lemmas.Bool.{false≢true, cases_lt}
+use Rattle.std.proofs.lemmas.Bool.{false≢true}
 use Rattle.std.proofs.lemmas.Cmp.{tied_itself}
 use Rattle.std.proofs.lemmas.List.Elements.{All-filter, Contains-get_or}
 use Rattle.std.proofs.lemmas.List.Sorted.{IsPermutation-sym, IsPermutation-trans, IsPermutation-insert, Contains-permutation, length_permutation}
@@ -15,7 +15,7 @@ use Rattle.iddqd_store.proofs.BagLemmas.Exchanges.{IsPermutation-filter}
 use Rattle.iddqd_sorted.specs.Items.{with_item}
 use Rattle.iddqd_sorted.specs.Ordered.{IsAscending}
 use Rattle.iddqd_sorted.proofs.Ordering.{IsRising-item, ascending-insert}
-use Rattle.iddqd_sorted.proofs.Parts.{filter-all, inserted-split}
+use Rattle.iddqd_order.proofs.FilterLemmas.{filter-all, inserted-split}
 
 module _ {T : Type 0} {by : T → T → Ordering} (o : IsTotalOrder by) where
   pub ascending-tail : (x : T) (xs : List T) → IsAscending by (x ∷ xs) → IsAscending by xs

@@ -1,11 +1,11 @@
 -- What becomes of many items that are inserted at once, all or none. In the examples an item is a pair of its first key and its
 -- sort key.
-use Rattle.std.specs.Prelude.{◌≡◌, ◌≤◌, Bool, List, ◌++◌, fold}
+use Rattle.std.specs.Prelude.{◌≡◌, Bool, List, ◌++◌, fold}
 use Rattle.std.specs.declared.cmp.Ordering.{Ordering}
 use Rattle.iddqd_store.specs.Bag.{Ranks, IsSound, tests_of}
 use Rattle.iddqd_store.specs.Bag.Building.{AddsTo}
 use Rattle.iddqd_store.specs.SlotMap.{AreAny}
-use Rattle.iddqd_sorted.specs.Items.{SortedValue, with_item}
+use Rattle.iddqd_sorted.specs.Items.{with_item}
 
 module _ {T : Type 0} where
   -- `with_items` lists the items after `with_item` for each item of the second list in turn.
@@ -26,10 +26,3 @@ module _ {T : Type 0} where
   pub record TellsWhyBehind (ranks : Ranks T) (old before : List T) (x : T) (flags : List Bool) : Type 0 where
     pub apart : IsSound ranks (before ++ old)
     pub taken : AreAny flags (tests_of ranks x) (before ++ old)
-
--- The capacity is no lower, and it stays if `fits` holds, which says that the items were certain to fit. The builder stays.
--- Example: If `fits` says that 3 + 4 ≤ 7, a map with the capacity 7 keeps it.
-pub record GrowsUnless {T K S : Type 0} (fits : Type 0) (old new : SortedValue T K S) : Type 0 where
-  pub no_less_room : old.capacity ≤ new.capacity
-  pub same_room : fits → new.capacity ≡ old.capacity
-  pub same_builder : new.builder ≡ old.builder

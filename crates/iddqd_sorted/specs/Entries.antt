@@ -1,6 +1,6 @@
 -- The entries of an order, and the items that they stand for. In the examples an item is a pair of its first key and its sort
 -- key, and an entry is a pair of a sort key and the number of a slot. No public clause cites what is here.
-use Rattle.std.specs.Prelude.{◌≡◌, ℕ, List, Option, Some, All, length, filter_map}
+use Rattle.std.specs.Prelude.{◌≡◌, List, Option, Some, All, length, filter_map}
 use Rattle.std.specs.declared.cmp.Ordering.{Ordering}
 use Rattle.iddqd_store.specs.Slots.{get, IsLive, live_count}
 use Rattle.iddqd_sorted.specs.Ordered.{IsAscending}

@@ -105,6 +105,13 @@ pub record MakesRoom {T K S A E : Type 0} (old : SortedValue T K S) (more : ℕ)
   pub most : new.capacity ≤ max (length (items old) + more) (max (2 * old.capacity) 4)
   pub same_builder : new.builder ≡ old.builder
 
+-- The capacity is no lower, and it stays if `fits` holds, which says that the items were certain to fit. The builder stays.
+-- Example: If `fits` says that 3 + 4 ≤ 7, a map with the capacity 7 keeps it.
+pub record GrowsUnless {T K S : Type 0} (fits : Type 0) (old new : SortedValue T K S) : Type 0 where
+  pub no_less_room : old.capacity ≤ new.capacity
+  pub same_room : fits → new.capacity ≡ old.capacity
+  pub same_builder : new.builder ≡ old.builder
+
 -- For each test that tells what the closure returns at an item, where no call changes the closure `f`, `kept` lists the items that
 -- pass.
 -- Example: For a closure that tells whether the first key is odd, and (2, 3), (1, 5), it is (1, 5).

@@ -1,10 +1,11 @@
 -- What calls that find an item by the key of one rank say of a map. In the examples an item is a pair of its first key and its
 -- sort key, and the map has (2, 3), (1, 5).
-use Rattle.std.specs.Prelude.{◌≡◌, ◌≢◌, ◌+◌, ◌≤◌, ℕ, Bool, not, List, [], ◌∷◌, Option, Some, None, IfNone, Result, Err, filter, length}
+use Rattle.std.specs.Prelude.{◌≡◌, ◌≢◌, ◌+◌, ◌≤◌, ℕ, Bool, not, List, [], ◌∷◌, Option, Some, None, IfNone, Result, Err, filter, length, map, true}
 use Rattle.std.specs.declared.cmp.Ordering.{Ordering}
 use Rattle.iddqd_store.specs.Bag.{IsOnly, Ranks, conflicts_of}
 use Rattle.iddqd_store.specs.Rank.{Costs, SearchCosts, walks_within}
 use Rattle.iddqd_store.specs.Rank.All.{PlacingCosts}
+use Rattle.iddqd_sorted.specs.Batches.{with_items}
 use Rattle.iddqd_sorted.specs.Items.{with_item}
 use Rattle.iddqd_sorted.specs.declared.map.rekey.Refused.{Refused}
 use Rattle.iddqd_sorted.specs.declared.map.rekey.Refused.TheVariants as refused
@@ -58,3 +59,11 @@ module _ {T : Type 0} where
     pub only : IsOnly test old (Some item)
     pub answered : answers item stored
     pub lists : new ≡ with_item by (filter (λ y. not (test y)) old) (put item stored)
+
+  -- For each function `write` that makes of an item that passes the test what the data that `answers` gives make of it, `new` lists
+  -- the items that fail the test, and `write` of the one that passes, if there is one, at the place of its sort key.
+  -- Example: For the test whether the first key is 2, and the answer 7, where the data are the sort key, `new` is (1, 5), (2, 7).
+  abbrev pub MapsOne : {D : Type 0} → (T → D → Type 0) → (T → D → T) → (T → T → Ordering) → (T → Bool) → List T → List T → Type 0
+  MapsOne {D} answers put by test old new =
+      (write : T → T) → ((x : T) (d : D) → test x ≡ true → answers x d → write x ≡ put x d)
+      → new ≡ with_items by (filter (λ y. not (test y)) old) (map write (filter test old))

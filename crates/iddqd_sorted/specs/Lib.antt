@@ -6,4 +6,3 @@ pub mod Keyed
 pub mod Ordered
 pub mod Overwriting
 pub mod Settled
-pub mod Walks

@@ -28,10 +28,3 @@ module _ {T : Type 0} where
       pub same_room : length (items old) < old.capacity → new.capacity ≡ old.capacity
       pub no_growth : conflicts_of ranks (items old) x ≢ [] → new.capacity ≡ old.capacity
       pub same_builder : new.builder ≡ old.builder
-
--- The capacity is no lower, and it stays if `fits` holds, which says that the items were certain to fit. The builder stays.
--- Example: If `fits` says that 3 + 4 ≤ 7, a map with the capacity 7 keeps it.
-pub record GrowsUnless {T K S : Type 0} (fits : Type 0) (old new : SortedValue T K S) : Type 0 where
-  pub no_less_room : old.capacity ≤ new.capacity
-  pub same_room : fits → new.capacity ≡ old.capacity
-  pub same_builder : new.builder ≡ old.builder

@@ -1,9 +1,8 @@
 //! What searches in the order ask of its entries.
 ghost use Rattle.std.specs.Prelude.{true, false};
 ghost use Rattle.std.specs.Ordering.{ordering_then};
-ghost use Rattle.iddqd_order.specs.Search.{order_at};
+ghost use Rattle.iddqd_order.specs.Search.{order_at, side_of};
 ghost use Rattle.iddqd_store.specs.Slots.{get, IsLive};
-ghost use Rattle.iddqd_sorted.specs.Ordered.{side_of};
 
 use crate::entry::Entry;
 use crate::item::Sortable;

@@ -4,12 +4,14 @@
 mod compare;
 mod entry;
 mod error;
+mod into_iter;
 mod item;
 mod iter;
 mod map;
 mod widths;
 
 pub use error::ExtendUniqueError;
+pub use into_iter::IntoIter;
 pub use item::Sortable;
 pub use iter::Iter;
 pub use map::Sorted;

@@ -9,6 +9,7 @@ mod batch;
 mod build;
 mod capacity;
 mod clone;
+mod collect;
 mod compare;
 mod emptied;
 mod ends;

@@ -1,17 +1,16 @@
 //! Inserting the items of a list so that they can be removed again if a later one is rejected.
-ghost use Rattle.std.specs.Prelude.{◌≡◌, ◌<◌, ◌≤◌, ◌++◌, [], ◌∷◌, true, false, List, All, None, Some, length, IfErr, OnErr, OnOk, IsPermutation, nat_eq};
+ghost use Rattle.std.specs.Prelude.{◌≡◌, ◌<◌, ◌≤◌, ◌++◌, [], ◌∷◌, true, false, List, All, length, IfErr, OnErr, OnOk, IsPermutation, nat_eq};
 ghost use Rattle.std.specs.List.{IsDistinct};
 ghost use Rattle.iddqd_store.specs.Bag.{IsSound, conflicts_of, tests_of};
 ghost use Rattle.iddqd_store.specs.SlotMap.{AreAny};
-ghost use Rattle.iddqd_store.specs.Slots.{get, IsLive, Updates};
+ghost use Rattle.iddqd_store.specs.Slots.{IsLive};
 ghost use Rattle.iddqd_store.specs.Slots.Found.{items_at, StandAt};
-ghost use Rattle.iddqd_sorted.specs.Batches.{GrowsUnless};
-ghost use Rattle.iddqd_sorted.specs.Items.{items, bag, by_sort, with_item};
+ghost use Rattle.iddqd_sorted.specs.Items.{GrowsUnless, items, by_sort, with_item};
 ghost use Rattle.iddqd_sorted.specs.Ordered.{IsAscending};
 
 use super::Sorted;
 use crate::item::Sortable;
-use iddqd_store::{AHEAD, Batch, Costs, ItemIndex, Meter, SlotMap, TryReserveError};
+use iddqd_store::{AHEAD, Batch, Costs, Meter, SlotMap, TryReserveError};
 
 impl<M: SlotMap> Sorted<M>
 where
@@ -124,24 +123,12 @@ where
     {
         let (slots, mut items) = batch.into_parts();
         for index in 0..slots.len() {
-            items.push_reserved(self.remove_noted(slots[index]));
+            items.push_reserved(self.remove_slot(
+                slots[index],
+                &mut Meter::new(),
+                &mut Meter::new(),
+            ));
         }
         items
-    }
-
-    /// Removes the item of a slot that was noted. The call hashes each key of it once, and searches for its place in the order.
-    fn remove_noted(&mut self, slot: ItemIndex) -> M::Item
-        requires { IsLive self.old.slots slot }
-        ensures value { get self.old.slots slot ≡ Some result }
-        ensures updates { Updates self.old.slots self.new.slots slot None }
-        ensures taken { IsPermutation (bag self.old) (result ∷ bag self.new) }
-        ensures left { IsPermutation (items self.old) (result ∷ items self.new) }
-        ensures ascending { IsAscending (by_sort M.Item.sort_key M.Item.SortKey.cmp M.first_key M.FirstKey.cmp) (items self.new) }
-        ensures capacity { self.new.capacity ≡ self.old.capacity }
-        ensures builder { self.new.builder ≡ self.old.builder }
-    {
-        let place = self.place_of_member(self.map.slots().item(slot), &mut Meter::new());
-        let _ = self.order.remove(place);
-        self.map.remove_at(slot, &mut Meter::new())
     }
 }

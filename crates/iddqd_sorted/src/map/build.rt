@@ -27,6 +27,15 @@ where
         Sorted::with_hasher(alloc, M::Builder::default())
     }
 
+    /// Makes an empty map of capacity 0, as `new` does.
+    pub fn default(alloc: Global) -> Self
+        ensures empty { items result ≡ [] }
+        ensures capacity { result.capacity ≡ 0 }
+        ensures builder { M.Builder.is_default result.builder }
+    {
+        Sorted::new(alloc)
+    }
+
     /// Makes an empty map with the default value of the builder's type, in which exactly `count` items fit.
     ///
     /// The call allocates the slots, each table, and the order. It fails if an allocation fails, or if the number of items is too

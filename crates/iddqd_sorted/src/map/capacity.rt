@@ -80,6 +80,7 @@ where
         ensures slots { self.new.slots ≡ self.old.slots }
         ensures blocks { self.new.blocks ≡ self.old.blocks }
         ensures room { MakesRoom self.old more result self.new }
+        ensures fits { length (items self.old) ≤ self.old.capacity }
         ensures unchanged { OnErr result (self.new ≡ self.old) }
     {
         let room = self.capacity();

@@ -1,9 +1,9 @@
 //! Inserting many items at once.
-ghost use Rattle.std.specs.Prelude.{◌≡◌, fold, length, IfErr, IsOk, OnOk};
+ghost use Rattle.std.specs.Prelude.{◌≡◌, ◌≤◌, fold, length, IfErr, IsOk, OnOk};
 ghost use Rattle.std.specs.Iterator.{IsFiniteIterable};
 ghost use Rattle.iddqd_store.specs.Bag.Building.{FitsOn, GivesAll, GivesThen};
-ghost use Rattle.iddqd_sorted.specs.Items.{items, by_sort, IsFullFor};
-ghost use Rattle.iddqd_sorted.specs.Overwriting.{GrowsUnless, overwritten};
+ghost use Rattle.iddqd_sorted.specs.Items.{GrowsUnless, items, by_sort, IsFullFor};
+ghost use Rattle.iddqd_sorted.specs.Overwriting.{overwritten};
 
 use super::Sorted;
 use crate::item::Sortable;
@@ -31,6 +31,7 @@ where
             ≡ fold (overwritten M.ranks (by_sort M.Item.sort_key M.Item.SortKey.cmp M.first_key M.FirstKey.cmp)) (items self.old) xs)) }
         ensures refused { IfErr result (λ e. GivesThen I.into_iter_gives I.IntoIter.next_gives iter e.value (λ xs. items self.new
             ≡ fold (overwritten M.ranks (by_sort M.Item.sort_key M.Item.SortKey.cmp M.first_key M.FirstKey.cmp)) (items self.old) xs)) }
+        ensures fits { length (items self.new) ≤ self.new.capacity }
         // The call fails only if the map is full and nothing conflicts with the item.
         ensures full { IfErr result (λ e. IsFullFor M.ranks self.new e.value) }
         // If as many items fit as the iterator may give, the call succeeds, and the capacity stays.

@@ -2,8 +2,8 @@
 ghost use Rattle.std.specs.Prelude.{◌≡◌, length, IfErr, OnOk, OnErr};
 ghost use Rattle.std.specs.Iterator.{IsFiniteIterable};
 ghost use Rattle.iddqd_store.specs.Bag.Building.{FitsOn, GivesAll, GivesThen};
-ghost use Rattle.iddqd_sorted.specs.Batches.{AddsInOrder, GrowsUnless, TellsWhyBehind};
-ghost use Rattle.iddqd_sorted.specs.Items.{items, by_sort};
+ghost use Rattle.iddqd_sorted.specs.Batches.{AddsInOrder, TellsWhyBehind};
+ghost use Rattle.iddqd_sorted.specs.Items.{GrowsUnless, items, by_sort};
 
 use super::Sorted;
 use crate::error::ExtendUniqueError;

@@ -4,7 +4,7 @@ ghost use Rattle.std.specs.Map.Iter.{ShowsInOrder, ShowsInReverse, deref};
 ghost use Rattle.std.specs.Ordering.{is_eq, is_lt, is_ge};
 ghost use Rattle.iddqd_sorted.specs.Items.{items, by_sort};
 ghost use Rattle.iddqd_sorted.specs.Ordered.{IsAscending};
-ghost use Rattle.iddqd_sorted.specs.Walks.{MeetsFirst, MeetsLast};
+ghost use Rattle.iddqd_order.specs.Walks.{MeetsFirst, MeetsLast};
 
 use super::Sorted;
 use crate::item::Sortable;

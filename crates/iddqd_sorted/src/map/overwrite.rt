@@ -1,23 +1,18 @@
 //! Inserting an item in place of those that conflict with it.
 ghost use Rattle.std.specs.Prelude.{◌≡◌, ◌≢◌, ℕ, ◌+◌, ◌*◌, ◌^◌, ◌<◌, ◌≤◌, [], ◌∷◌, All, length, map, nat_eq, None, Some, ◌++◌, IsOk, OnOk, OnErr, IfOk, IfErr, IsPermutation, slice_set};
 ghost use Rattle.std.specs.List.{IsDistinct};
-ghost use Rattle.iddqd_store.specs.Bag.{IsSound, conflicting, conflicts_of};
+ghost use Rattle.iddqd_store.specs.Bag.{conflicting, conflicts_of};
 ghost use Rattle.iddqd_store.specs.Map.{Loses, PutsAt};
 ghost use Rattle.iddqd_store.specs.Rank.{walks_within};
 ghost use Rattle.iddqd_store.specs.Rank.All.{AreHashed, HaveHashes, PlacingCosts, hashes_of};
-ghost use Rattle.iddqd_store.specs.Slots.{contents, get, IsLive, Updates};
+ghost use Rattle.iddqd_store.specs.Slots.{contents, get, IsLive};
 ghost use Rattle.iddqd_store.specs.Slots.Found.{StandAt, each_once, items_at};
-ghost use Rattle.iddqd_order.specs.Row.{line};
-ghost use Rattle.iddqd_sorted.specs.Entries.{IsListed};
 ghost use Rattle.iddqd_sorted.specs.Items.{items, bag, by_sort, IsFullFor};
 ghost use Rattle.iddqd_sorted.specs.Ordered.{IsAscending};
 ghost use Rattle.iddqd_sorted.specs.Overwriting.{Overwrites, map_of};
 
 use super::Sorted;
-use crate::compare::ByItem;
-use crate::entry::Entry;
 use crate::item::Sortable;
-use iddqd_order::Blocks;
 use iddqd_store::{Costs, ItemIndex, MemoryRefused, Meter, SlotMap, UpToThree};
 
 impl<M: SlotMap> Sorted<M>
@@ -143,19 +138,6 @@ where
         taken
     }
 
-    /// Removes the item of this slot, by a search in the order and one walk through each table, and returns it.
-    fn remove_slot(&mut self, slot: ItemIndex, probed: &mut Meter, meter: &mut Meter) -> M::Item
-        requires { IsLive self.old.slots slot }
-        ensures value { get self.old.slots slot ≡ Some result }
-        ensures updates { Updates self.old.slots self.new.slots slot None }
-        ensures loses { Loses (map_of self.old) (result ∷ []) (map_of self.new) }
-        ensures asked { (r : ℕ) → length (bag self.old) < 4 ^ r → meter.new ≤ meter.old + (3 * r + 19) }
-        ensures probed { probed.new ≤ probed.old + walks_within (length (bag self.old)) (map (λ _. 1) M.ranks) }
-    {
-        Self::take_entry(&self.map, &mut self.order, slot, meter);
-        self.map.remove_at(slot, probed)
-    }
-
     /// Puts an item in the slot of the only one that conflicts with it, and returns the latter. `found` is what the searches by the
     /// keys of the new item found; other items that they found have left the map since.
     fn overwrite_slot(
@@ -177,68 +159,10 @@ where
         ensures asked { (r : ℕ) → length (bag self.old) < 4 ^ r → meter.new ≤ meter.old + 2 * (3 * r + 19) }
         ensures probed { probed.new ≤ probed.old + walks_within (length (bag self.old)) (map (λ _. 2) M.ranks) }
     {
-        Self::take_entry(&self.map, &mut self.order, slot, meter);
+        let place = Sorted::<M>::place_of_slot(&self.map, &self.order, slot, meter);
+        let _ = self.order.remove(place);
         let gone = self.map.overwrite_at(slot, item, found, probed);
-        Self::settle_entry(&self.map, &mut self.order, slot, meter);
+        Sorted::<M>::settle(&self.map, &mut self.order, slot, meter);
         gone
-    }
-
-    /// Removes the entry of the item in this slot from the order. The order has room for another one then.
-    fn take_entry(
-        map: &M,
-        order: &mut Blocks<Entry<<M::Item as Sortable>::SortKey>>,
-        slot: ItemIndex,
-        meter: &mut Meter,
-    )
-        requires live { IsLive (M.shown map.now).slots slot }
-        requires listed { IsListed (by_sort M.Item.sort_key M.Item.SortKey.cmp M.first_key M.FirstKey.cmp) M.Item.sort_key
-            (M.shown map.now).slots (line order.old.blocks) }
-        ensures listed { IsListed (by_sort M.Item.sort_key M.Item.SortKey.cmp M.first_key M.FirstKey.cmp) M.Item.sort_key
-            (slice_set (M.shown map.now).slots slot None) (line order.new.blocks) }
-        ensures room { length (line order.new.blocks) < order.new.capacity }
-        ensures capacity { order.new.capacity ≡ order.old.capacity }
-        ensures asked { (r : ℕ) → length (line order.old.blocks) < 4 ^ r → meter.new ≤ meter.old + (3 * r + 19) }
-    {
-        let item = map.slots().item(slot);
-        let compare: ByItem<'_, M> = ByItem {
-            items: map.slots(),
-            sort_key: item.sort_key(),
-            first_key: M::first_key(item),
-        };
-        let Ok(place) = order.search(&compare, meter) else {
-            unreachable!()
-        };
-        let _ = order.remove(place);
-    }
-
-    /// Inserts the entry of the item in this slot into the order, which lists the items of all other slots. It asks for no memory.
-    fn settle_entry(
-        map: &M,
-        order: &mut Blocks<Entry<<M::Item as Sortable>::SortKey>>,
-        slot: ItemIndex,
-        meter: &mut Meter,
-    )
-        requires live { IsLive (M.shown map.now).slots slot }
-        requires sound { IsSound M.ranks (contents (M.shown map.now).slots) }
-        requires listed { IsListed (by_sort M.Item.sort_key M.Item.SortKey.cmp M.first_key M.FirstKey.cmp) M.Item.sort_key
-            (slice_set (M.shown map.now).slots slot None) (line order.old.blocks) }
-        requires room { length (line order.old.blocks) < order.old.capacity }
-        ensures listed { IsListed (by_sort M.Item.sort_key M.Item.SortKey.cmp M.first_key M.FirstKey.cmp) M.Item.sort_key
-            (M.shown map.now).slots (line order.new.blocks) }
-        ensures fits { length (line order.new.blocks) ≤ order.new.capacity }
-        ensures capacity { order.new.capacity ≡ order.old.capacity }
-        ensures asked { (r : ℕ) → length (line order.old.blocks) < 4 ^ r → meter.new ≤ meter.old + (3 * r + 19) }
-    {
-        let item = map.slots().item(slot);
-        let sort_key = item.sort_key();
-        let compare: ByItem<'_, M> = ByItem {
-            items: map.slots(),
-            sort_key,
-            first_key: M::first_key(item),
-        };
-        let Err(to) = order.search(&compare, meter) else {
-            unreachable!()
-        };
-        let _ = order.insert_within(to, Entry { sort_key, slot });
     }
 }

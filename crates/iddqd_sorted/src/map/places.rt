@@ -1,11 +1,10 @@
 //! Single items and their places in the order.
-ghost use Rattle.std.specs.Prelude.{◌≡◌, ℕ, ◌+◌, ◌*◌, ◌<◌, ◌≤◌, ◌^◌, true, false, length, map, Contains, IfOk, IfErr, slice_index_or};
+ghost use Rattle.std.specs.Prelude.{◌≡◌, ℕ, ◌+◌, ◌*◌, ◌<◌, ◌≤◌, ◌^◌, true, false, length, map, IfOk, IfErr, slice_index_or};
 ghost use Rattle.std.specs.List.{remove};
 ghost use Rattle.iddqd_store.specs.Rank.{walks_within};
 ghost use Rattle.iddqd_order.specs.Row.{position, HasEntry, IsPlace};
 ghost use Rattle.iddqd_sorted.specs.Items.{items, by_sort};
-ghost use Rattle.iddqd_sorted.specs.Ordered.{IsCut, is_past};
-ghost use Rattle.iddqd_order.specs.Search.{IsSplit};
+ghost use Rattle.iddqd_order.specs.Search.{IsSplit, IsStartOf, is_past};
 
 use super::Sorted;
 use crate::compare::{Before, Behind, ByItem};
@@ -37,19 +36,6 @@ where
         self.order.search(&compare, meter)
     }
 
-    /// Returns the place of an item of the map.
-    pub(crate) fn place_of_member(&self, item: &M::Item, meter: &mut Meter) -> Place
-        requires { Contains (items self.now) item.now }
-        ensures entry { HasEntry self.now.blocks result }
-        ensures item { (d : M.Item) → slice_index_or (items self.now) (position self.now.blocks result) d ≡ item.now }
-        ensures asked { (r : ℕ) → length (items self.now) < 4 ^ r → meter.new ≤ meter.old + (3 * r + 19) }
-    {
-        match self.place_of(item, meter) {
-            Ok(place) => place,
-            Err(_) => unreachable!(),
-        }
-    }
-
     /// Returns the place of the first item whose sort key is not lower than this one. It is the end if there is none.
     pub(crate) fn place_before(
         &self,
@@ -57,7 +43,7 @@ where
         meter: &mut Meter,
     ) -> Place
         ensures place { IsPlace self.now.blocks result }
-        ensures cut { IsCut (λ x. is_past false (M.Item.SortKey.cmp (M.Item.sort_key x) sort_key.now)) (items self.now)
+        ensures starts { IsStartOf (λ x. is_past false (M.Item.SortKey.cmp (M.Item.sort_key x) sort_key.now)) (items self.now)
             (position self.now.blocks result) }
         ensures asked { (r : ℕ) → length (items self.now) < 4 ^ r → meter.new ≤ meter.old + (3 * r + 19) }
     {
@@ -74,7 +60,7 @@ where
         meter: &mut Meter,
     ) -> Place
         ensures place { IsPlace self.now.blocks result }
-        ensures cut { IsCut (λ x. is_past true (M.Item.SortKey.cmp (M.Item.sort_key x) sort_key.now)) (items self.now)
+        ensures starts { IsStartOf (λ x. is_past true (M.Item.SortKey.cmp (M.Item.sort_key x) sort_key.now)) (items self.now)
             (position self.now.blocks result) }
         ensures asked { (r : ℕ) → length (items self.now) < 4 ^ r → meter.new ≤ meter.old + (3 * r + 19) }
     {

@@ -4,8 +4,8 @@ ghost use Rattle.std.specs.Map.Iter.{ShowsInOrder, ShowsInReverse, deref};
 ghost use Rattle.std.specs.Range.Bound.{bound_map};
 ghost use Rattle.iddqd_order.specs.Row.{position, IsPlace};
 ghost use Rattle.iddqd_sorted.specs.Items.{items, is_from, is_to, within};
-ghost use Rattle.iddqd_sorted.specs.Ordered.{IsCut};
-ghost use Rattle.iddqd_sorted.specs.Walks.{MeetsFirst, MeetsLast};
+ghost use Rattle.iddqd_order.specs.Search.{IsStartOf};
+ghost use Rattle.iddqd_order.specs.Walks.{MeetsFirst, MeetsLast};
 
 use super::Sorted;
 use crate::item::Sortable;
@@ -62,7 +62,7 @@ where
     /// Returns the place of the first item that is not before a lower bound, or the end if there is none.
     fn first_from(&self, low: Bound<&<M::Item as Sortable>::SortKey>, meter: &mut Meter) -> Place
         ensures place { IsPlace self.now.blocks result }
-        ensures cut { IsCut (is_from M.Item.sort_key M.Item.SortKey.cmp (bound_map (λ k. k.now) low.entry)) (items self.now)
+        ensures starts { IsStartOf (is_from M.Item.sort_key M.Item.SortKey.cmp (bound_map (λ k. k.now) low.entry)) (items self.now)
             (position self.now.blocks result) }
         ensures asked { (r : ℕ) → length (items self.now) < 4 ^ r → meter.new ≤ meter.old + (3 * r + 19) }
     {
@@ -76,7 +76,7 @@ where
     /// Returns the place of the first item that is behind an upper bound, or the end if there is none.
     fn first_past(&self, high: Bound<&<M::Item as Sortable>::SortKey>, meter: &mut Meter) -> Place
         ensures place { IsPlace self.now.blocks result }
-        ensures cut { IsCut (λ x. not (is_to M.Item.sort_key M.Item.SortKey.cmp (bound_map (λ k. k.now) high.entry) x)) (items self.now)
+        ensures starts { IsStartOf (λ x. not (is_to M.Item.sort_key M.Item.SortKey.cmp (bound_map (λ k. k.now) high.entry) x)) (items self.now)
             (position self.now.blocks result) }
         ensures asked { (r : ℕ) → length (items self.now) < 4 ^ r → meter.new ≤ meter.old + (3 * r + 19) }
     {

@@ -1,12 +1,17 @@
-//! Removing the item that a key finds.
-ghost use Rattle.std.specs.Prelude.{◌≡◌, ℕ, ◌+◌, ◌*◌, ◌^◌, ◌<◌, ◌≤◌, not, filter, length, map, IfNone};
+//! Removing the item that a key finds, and that of a slot.
+ghost use Rattle.std.specs.Prelude.{◌≡◌, ℕ, ◌+◌, ◌*◌, ◌^◌, ◌<◌, ◌≤◌, [], ◌∷◌, not, filter, length, map, None, Some, IfNone, IsPermutation};
 ghost use Rattle.iddqd_store.specs.Bag.{IsOnly};
-ghost use Rattle.iddqd_sorted.specs.Items.{items, bag};
+ghost use Rattle.iddqd_store.specs.Map.{Loses};
+ghost use Rattle.iddqd_store.specs.Rank.{walks_within};
+ghost use Rattle.iddqd_store.specs.Slots.{get, IsLive, Updates};
+ghost use Rattle.iddqd_sorted.specs.Items.{items, bag, by_sort};
 ghost use Rattle.iddqd_sorted.specs.Keyed.{RemovingCosts};
+ghost use Rattle.iddqd_sorted.specs.Ordered.{IsAscending};
+ghost use Rattle.iddqd_sorted.specs.Overwriting.{map_of};
 
 use super::Sorted;
 use crate::item::Sortable;
-use iddqd_store::{Costs, FindsBy, Meter, Query, SlotMap};
+use iddqd_store::{Costs, FindsBy, ItemIndex, Meter, Query, SlotMap};
 
 impl<M: SlotMap> Sorted<M>
 where
@@ -41,5 +46,27 @@ where
         let place = Sorted::<M>::place_of_slot(&self.map, &self.order, slot, meter);
         let _ = self.order.remove(place);
         Some(self.map.remove_by(slot, hash, &mut costs.probed))
+    }
+
+    /// Removes the item of this slot, by a search in the order and one walk through each table, and returns it. The call hashes
+    /// each key of it once, and allocates no memory.
+    pub(super) fn remove_slot(
+        &mut self,
+        slot: ItemIndex,
+        probed: &mut Meter,
+        meter: &mut Meter,
+    ) -> M::Item
+        requires { IsLive self.old.slots slot }
+        ensures value { get self.old.slots slot ≡ Some result }
+        ensures updates { Updates self.old.slots self.new.slots slot None }
+        ensures loses { Loses (map_of self.old) (result ∷ []) (map_of self.new) }
+        ensures left { IsPermutation (items self.old) (result ∷ items self.new) }
+        ensures ascending { IsAscending (by_sort M.Item.sort_key M.Item.SortKey.cmp M.first_key M.FirstKey.cmp) (items self.new) }
+        ensures asked { (r : ℕ) → length (bag self.old) < 4 ^ r → meter.new ≤ meter.old + (3 * r + 19) }
+        ensures probed { probed.new ≤ probed.old + walks_within (length (bag self.old)) (map (λ _. 1) M.ranks) }
+    {
+        let place = Sorted::<M>::place_of_slot(&self.map, &self.order, slot, meter);
+        let _ = self.order.remove(place);
+        self.map.remove_at(slot, probed)
     }
 }

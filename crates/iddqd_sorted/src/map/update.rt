@@ -4,7 +4,7 @@ ghost use Rattle.std.specs.Fn.{FnOnceReturnsAt, FnOnceTakesAt};
 ghost use Rattle.std.specs.List.{list_any};
 ghost use Rattle.iddqd_store.specs.Bag.{IsOnly};
 ghost use Rattle.iddqd_sorted.specs.Items.{items, by_sort};
-ghost use Rattle.iddqd_sorted.specs.Keyed.{StoresOne};
+ghost use Rattle.iddqd_sorted.specs.Keyed.{MapsOne, StoresOne};
 
 use super::Sorted;
 use crate::item::Sortable;
@@ -36,6 +36,9 @@ where
         ensures stores { result ≡ true → StoresOne (FnOnceReturnsAt F.FnOnce f) ⟦<M as StoresData>⟧.put
             (by_sort M.Item.sort_key M.Item.SortKey.cmp M.first_key M.FirstKey.cmp)
             (λ y. Q.stands_for query (⟦<M as FindsBy<R>>⟧.key y)) (items self.old) (items self.new) }
+        ensures maps { MapsOne (FnOnceReturnsAt F.FnOnce f) ⟦<M as StoresData>⟧.put
+            (by_sort M.Item.sort_key M.Item.SortKey.cmp M.first_key M.FirstKey.cmp)
+            (λ y. Q.stands_for query (⟦<M as FindsBy<R>>⟧.key y)) (items self.old) (items self.new) }
         ensures absent { result ≡ false → self.new ≡ self.old }
         ensures capacity { self.new.capacity ≡ self.old.capacity }
         ensures builder { self.new.builder ≡ self.old.builder }
@@ -44,8 +47,6 @@ where
         let Some((slot, _)) = self.map.slot_by(query, costs) else {
             return false;
         };
-        // The number of items tells the prover that no two items conflict.
-        let _ = self.map.len();
         let place = Sorted::<M>::place_of_slot(&self.map, &self.order, slot, meter);
         let d = f(self.map.slots().item(slot));
         self.map.store_at(slot, d);

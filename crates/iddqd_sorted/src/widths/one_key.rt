@@ -6,14 +6,19 @@ ghost use Rattle.iddqd_store.specs.Bag.{IsOnly};
 ghost use Rattle.iddqd_id.specs.Keys.{has};
 ghost use Rattle.iddqd_id.specs.Rekeyed.{TellsWhyNot, refused_item};
 ghost use Rattle.iddqd_sorted.specs.Items.{items, by_sort, with_item};
-ghost use Rattle.iddqd_sorted.specs.Keyed.{StoresOne};
+ghost use Rattle.iddqd_sorted.specs.Keyed.{MapsOne, StoresOne};
 
+use crate::error::ExtendUniqueError;
 use crate::item::Sortable;
 use crate::map::Sorted;
 use crate::map::rekey::Refused;
 use iddqd_id::ranks::First;
-use iddqd_id::{DefaultHashBuilder, IdHashItem, IdHashItemMut, IdHashMap, NotReplaced, Ranked};
-use iddqd_store::{Costs, Meter, Query};
+use iddqd_id::{
+    DefaultHashBuilder, IdHashItem, IdHashItemMut, IdHashMap, NotReplaced, Ranked, Rejected,
+};
+use iddqd_store::{Costs, InsertReason, Meter, Query};
+use std::error::Error;
+use std::fmt::{self, Display, Formatter, Write};
 use std::hash::{BuildHasher, Hash};
 
 /// A hash map of items with one key that also keeps them in the order of their sort keys.
@@ -99,6 +104,9 @@ where
         ensures stores { result ≡ true → StoresOne (FnOnceReturnsAt F.FnOnce f) T.put
             (by_sort T.sort_key T.SortKey.cmp T.key T.Key.cmp)
             (has T.IdHashItem Q.stands_for query) (items self.old) (items self.new) }
+        ensures maps { MapsOne (FnOnceReturnsAt F.FnOnce f) T.put
+            (by_sort T.sort_key T.SortKey.cmp T.key T.Key.cmp)
+            (has T.IdHashItem Q.stands_for query) (items self.old) (items self.new) }
         ensures absent { result ≡ false → self.new ≡ self.old }
         ensures capacity { self.new.capacity ≡ self.old.capacity }
         ensures builder { self.new.builder ≡ self.old.builder }
@@ -106,3 +114,25 @@ where
         self.update_by::<First, Q, F>(query, f, &mut Costs::new(), &mut Meter::new())
     }
 }
+
+impl<T> ExtendUniqueError<T, Rejected<T>> {
+    /// Returns why the call failed: `Duplicate` if the key of the item is taken, otherwise `Memory`.
+    pub fn reason(&self) -> InsertReason
+        ensures duplicate { result ≡ InsertReason.Duplicate → self.now.rejected.taken ≡ false → ⊥ }
+        ensures none_taken { result ≡ InsertReason.Memory → self.now.rejected.taken ≡ false }
+    {
+        if self.rejected.taken {
+            InsertReason::Duplicate
+        } else {
+            InsertReason::Memory
+        }
+    }
+}
+
+impl<T> Display for ExtendUniqueError<T, Rejected<T>> {
+    fn fmt<W: Write>(&self, f: &mut Formatter<W>) -> fmt::Result {
+        self.tell(f, self.reason())
+    }
+}
+
+impl<T: Drop> Error for ExtendUniqueError<T, Rejected<T>> {}

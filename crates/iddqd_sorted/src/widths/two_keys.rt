@@ -6,14 +6,19 @@ ghost use Rattle.iddqd_store.specs.Bag.{IsOnly};
 ghost use Rattle.iddqd_bi.specs.Keys.{has1, has2};
 ghost use Rattle.iddqd_bi.specs.Rekeyed.{TellsWhyNot, refused_item};
 ghost use Rattle.iddqd_sorted.specs.Items.{items, by_sort, with_item};
-ghost use Rattle.iddqd_sorted.specs.Keyed.{StoresOne};
+ghost use Rattle.iddqd_sorted.specs.Keyed.{MapsOne, StoresOne};
 
+use crate::error::ExtendUniqueError;
 use crate::item::Sortable;
 use crate::map::Sorted;
 use crate::map::rekey::Refused;
 use iddqd_bi::ranks::{First, Second};
-use iddqd_bi::{BiHashItem, BiHashItemMut, BiHashMap, DefaultHashBuilder, NotReplaced, Ranked};
-use iddqd_store::{Costs, Meter, Query};
+use iddqd_bi::{
+    BiHashItem, BiHashItemMut, BiHashMap, DefaultHashBuilder, NotReplaced, Ranked, Rejected,
+};
+use iddqd_store::{Costs, InsertReason, Meter, Query};
+use std::error::Error;
+use std::fmt::{self, Display, Formatter, Write};
 use std::hash::{BuildHasher, Hash};
 
 /// A hash map of items with two keys that also keeps them in the order of their sort keys.
@@ -152,6 +157,9 @@ where
         ensures stores { result ≡ true → StoresOne (FnOnceReturnsAt F.FnOnce f) T.put
             (by_sort T.sort_key T.SortKey.cmp T.key1 T.K1.cmp)
             (has1 T.BiHashItem Q.stands_for query) (items self.old) (items self.new) }
+        ensures maps { MapsOne (FnOnceReturnsAt F.FnOnce f) T.put
+            (by_sort T.sort_key T.SortKey.cmp T.key1 T.K1.cmp)
+            (has1 T.BiHashItem Q.stands_for query) (items self.old) (items self.new) }
         ensures absent { result ≡ false → self.new ≡ self.old }
         ensures capacity { self.new.capacity ≡ self.old.capacity }
         ensures builder { self.new.builder ≡ self.old.builder }
@@ -177,6 +185,9 @@ where
         ensures stores { result ≡ true → StoresOne (FnOnceReturnsAt F.FnOnce f) T.put
             (by_sort T.sort_key T.SortKey.cmp T.key1 T.K1.cmp)
             (has2 T.BiHashItem Q.stands_for query) (items self.old) (items self.new) }
+        ensures maps { MapsOne (FnOnceReturnsAt F.FnOnce f) T.put
+            (by_sort T.sort_key T.SortKey.cmp T.key1 T.K1.cmp)
+            (has2 T.BiHashItem Q.stands_for query) (items self.old) (items self.new) }
         ensures absent { result ≡ false → self.new ≡ self.old }
         ensures capacity { self.new.capacity ≡ self.old.capacity }
         ensures builder { self.new.builder ≡ self.old.builder }
@@ -184,3 +195,25 @@ where
         self.update_by::<Second, Q, F>(query, f, &mut Costs::new(), &mut Meter::new())
     }
 }
+
+impl<T> ExtendUniqueError<T, Rejected<T>> {
+    /// Returns why the call failed: `Duplicate` if a key of the item is taken, otherwise `Memory`.
+    pub fn reason(&self) -> InsertReason
+        ensures duplicate { result ≡ InsertReason.Duplicate → self.now.rejected.taken1 ≡ false → self.now.rejected.taken2 ≡ false → ⊥ }
+        ensures none_taken { result ≡ InsertReason.Memory → (self.now.rejected.taken1 ≡ false) × (self.now.rejected.taken2 ≡ false) }
+    {
+        if !self.rejected.taken1 && !self.rejected.taken2 {
+            InsertReason::Memory
+        } else {
+            InsertReason::Duplicate
+        }
+    }
+}
+
+impl<T> Display for ExtendUniqueError<T, Rejected<T>> {
+    fn fmt<W: Write>(&self, f: &mut Formatter<W>) -> fmt::Result {
+        self.tell(f, self.reason())
+    }
+}
+
+impl<T: Drop> Error for ExtendUniqueError<T, Rejected<T>> {}

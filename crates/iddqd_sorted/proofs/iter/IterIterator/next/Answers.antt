@@ -1,4 +1,3 @@
-use Rattle.std.proofs.Common.{IsSome}
 use Rattle.std.proofs.lemmas.List.Elements.{All-rest}
 use Rattle.iddqd_store.specs.Slots.{IsLive}
 use Rattle.iddqd_sorted.proofs.iter.IterIterator.next.Goals as goal

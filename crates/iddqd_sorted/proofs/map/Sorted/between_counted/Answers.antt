@@ -7,9 +7,9 @@ use Rattle.iddqd_store.specs.Slots.{IsLive}
 use Rattle.iddqd_order.specs.Row.{line}
 use Rattle.iddqd_sorted.specs.Entries.{item_in}
 use Rattle.iddqd_sorted.proofs.Entries.{All-range, items-range}
-use Rattle.iddqd_sorted.proofs.Parts.{filter-between}
-use Rattle.iddqd_sorted.proofs.Sorting.{IsCut-same, not_lt}
-use Rattle.iddqd_sorted.proofs.Walks.{meets_first, meets_last}
+use Rattle.iddqd_order.proofs.FilterLemmas.{filter-between}
+use Rattle.iddqd_sorted.proofs.Sorting.{IsStartOf-same, not_lt}
+use Rattle.iddqd_order.proofs.WalkLemmas.{meets_first, meets_last}
 use Rattle.iddqd_sorted.proofs.map.Sorted.between_counted.Goals as goal
 
 pub over-requires : goal.over-requires
@@ -18,8 +18,8 @@ over-requires g c = rw (c.slots.ensures, c.range.ensures) (All-range (λ e. IsLi
 pub returns-clause-gives : goal.returns-clause-gives
 returns-clause-gives g c =
     let at = λ (x : g.row.M-Item.Denot) (k : g.row.M-Item-SortKey.Denot). g.M.Item.SortKey.Ord.cmp (g.M.Item.Sortable.sort_key x) k in
-    let from = rw (← c.self.view_is) at c.place_before-from.ensures.cut in
-    let to = IsCut-same (λ x. is_ge (at x c.args.before.now)) (λ x. not (is_lt (at x c.args.before.now))) (λ x. not_lt (at x c.args.before.now)) _ _ (rw (← c.self.view_is) at c.place_before-to.ensures.cut) in
+    let from = rw (← c.self.view_is) at c.place_before-from.ensures.starts in
+    let to = IsStartOf-same (λ x. is_ge (at x c.args.before.now)) (λ x. not (is_lt (at x c.args.before.now))) (λ x. not_lt (at x c.args.before.now)) _ _ (rw (← c.self.view_is) at c.place_before-to.ensures.starts) in
     rw (← c.self.view_is) ((rw (c.slots.ensures, c.range.ensures) at c.over.ensures.gives)
     ∙ items-range (item_in (g.M.SlotMap.shown c.self.inside.map).slots) (line c.self.inside.order.blocks) _ _ c.self.invariant.live
     ∙ sym (filter-between (λ x. is_ge (at x c.args.from.now)) (λ x. is_lt (at x c.args.before.now)) _ _ _ from to))

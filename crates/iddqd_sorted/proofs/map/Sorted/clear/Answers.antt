@@ -1,5 +1,3 @@
-use Rattle.std.proofs.Common.{ap}
-use Rattle.iddqd_sorted.specs.Entries.{items_in}
 use Rattle.iddqd_sorted.specs.Items.{by_sort}
 use Rattle.iddqd_sorted.proofs.Listed.{IsListed-none}
 use Rattle.iddqd_sorted.proofs.map.Sorted.clear.Goals as goal

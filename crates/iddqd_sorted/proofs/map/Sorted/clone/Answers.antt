@@ -1,6 +1,6 @@
 use Rattle.std.proofs.Common.{◌≡◌, sym, ap, ◌∙◌, subst, length, arith}
 use Rattle.std.specs.List.{each_same}
-use Rattle.std.specs.Prelude.{Contains, List}
+use Rattle.std.specs.Prelude.{List}
 use Rattle.std.proofs.lemmas.List.Sorted.{Contains-permutation}
 use Rattle.iddqd_store.specs.Slots.{contents}
 use Rattle.iddqd_order.specs.Row.{line}

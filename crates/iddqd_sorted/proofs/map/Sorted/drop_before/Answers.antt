@@ -1,4 +1,4 @@
-use Rattle.std.proofs.Common.{◌≡◌, ap, sym, ◌∙◌}
+use Rattle.std.proofs.Common.{ap, sym, ◌∙◌}
 use Rattle.iddqd_sorted.specs.Items.{items}
 use Rattle.iddqd_sorted.proofs.Sorting.{all_at_least}
 use Rattle.iddqd_sorted.proofs.map.Sorted.drop_before.Goals as goal

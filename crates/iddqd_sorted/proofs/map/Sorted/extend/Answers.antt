@@ -1,4 +1,4 @@
-use Rattle.std.proofs.Common.{refl, rules}
+use Rattle.std.proofs.Common.{refl, rules, arith}
 use Rattle.std.proofs.iter.Next.{on}
 use Rattle.iddqd_store.proofs.MapLemmas.{at_err}
 use Rattle.iddqd_sorted.specs.Items.{items, by_sort}
@@ -15,6 +15,7 @@ loop-item-preserved g c =
       ending = next.1;
       extends = overwritten-push g.M.SlotMap.ranks (by_sort g.M.Item.Sortable.sort_key g.M.Item.SortKey.Ord.cmp g.M.SlotMap.first_key g.M.FirstKey.Ord.cmp) (items c.args.self.now) (items c.loop-item.self)
           (items c.insert_overwrite.new.self) c.loop-item.yielded c.in-Some.item so_far.extends put.lists;
+      fits = put.fits;
       room = HasRoomOn-overwrites so_far.room _ next.2 put;
     }
 
@@ -23,6 +24,7 @@ loop-item-init g c = record {
   callable = search rules;
   ending = search rules;
   extends = rw (c.grow.ensures.slots, c.grow.ensures.blocks) refl;
+  fits = rw (c.grow.ensures.slots, c.grow.ensures.blocks) (omega (arith, c.grow.ensures.fits, c.grow.ensures.room.no_less_room));
   room = record { no_less_room = search rules; fits = search rules; same_builder = search rules };
 }
 
@@ -37,6 +39,7 @@ returns-in_err-insert_overwrite g c =
       all = search rules;
       refused = at_err c.from_residual.result error _ (search rules)
           (rw failed.unchanged (c.into_iter-item-iterator.result, c.loop-item.yielded, c.next.new.self, search rules, rw failed.handed_back (search rules), so_far.extends));
+      fits = rw failed.unchanged so_far.fits;
       full = at_err c.from_residual.result error _ (search rules) (rw (failed.unchanged, failed.handed_back) failed.reason);
       granted = λ fit. absurd (full_not so_far.room _ nearer fit failed.reason.full);
       grows_unless = rw failed.unchanged (GrowsUnless-so_far so_far.room);

@@ -1,8 +1,8 @@
-use Rattle.std.proofs.Common.{◌≡◌, ◌≢◌, [], map, arith}
+use Rattle.std.proofs.Common.{map, arith}
 use Rattle.std.specs.Prelude.{is_some}
 use Rattle.std.proofs.lemmas.List.Sorted.{IsPermutation-sym}
 use Rattle.std.proofs.lemmas.Result.{IfErr-weaker, on_ok_weaker}
-use Rattle.iddqd_store.specs.Bag.{tests_of, conflicts_of, do_conflict}
+use Rattle.iddqd_store.specs.Bag.{tests_of, do_conflict}
 use Rattle.iddqd_order.specs.Row.{line}
 use Rattle.iddqd_sorted.proofs.Costs.{SearchesEach-room}
 use Rattle.iddqd_sorted.proofs.Finding.{none-permutation}

@@ -1,10 +1,10 @@
-use Rattle.std.proofs.Common.{◌≡◌, refl, ap, arith}
+use Rattle.std.proofs.Common.{ap, arith}
 use Rattle.std.proofs.lemmas.Result.{on_ok_weaker, on_err_weaker}
 use Rattle.iddqd_store.specs.Map.{Map}
 use Rattle.iddqd_order.specs.Row.{BlocksValue, line}
 use Rattle.iddqd_sorted.specs.declared.entry.Entry.{Entry}
 use Rattle.iddqd_sorted.proofs.Listed.{long, counted-items}
-use Rattle.iddqd_sorted.proofs.Parts.{err_is_not_ok, err_for_all}
+use Rattle.iddqd_order.proofs.FilterLemmas.{err_is_not_ok, err_for_all}
 use Rattle.iddqd_sorted.proofs.Sorting.{total}
 use Rattle.iddqd_sorted.proofs.map.Sorted.grow_both.Goals as goal
 

@@ -1,11 +1,11 @@
-use Rattle.std.proofs.Common.{◌≡◌, ◌+◌, ◌∙◌, ap, length, map, arith}
+use Rattle.std.proofs.Common.{◌∙◌, ap, arith}
 use Rattle.std.specs.Prelude.{slice_index_or}
 use Rattle.std.specs.Ordering.{is_eq}
 use Rattle.iddqd_store.specs.Bag.{do_conflict}
 use Rattle.iddqd_order.specs.Row.{position}
 use Rattle.iddqd_sorted.specs.Items.{SortedValue, items, by_sort}
 use Rattle.iddqd_sorted.proofs.Finding.{passes_somewhere}
-use Rattle.iddqd_sorted.proofs.Parts.{inserted-split}
+use Rattle.iddqd_order.proofs.FilterLemmas.{inserted-split}
 use Rattle.iddqd_sorted.proofs.Sorting.{same_key}
 use Rattle.iddqd_sorted.proofs.map.Sorted.insert_free.Goals as goal
 

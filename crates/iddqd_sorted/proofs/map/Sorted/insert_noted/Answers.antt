@@ -9,7 +9,7 @@ use Rattle.iddqd_order.specs.Row.{position}
 use Rattle.iddqd_sorted.specs.Items.{items, by_sort}
 use Rattle.iddqd_sorted.proofs.Finding.{passes_somewhere}
 use Rattle.iddqd_sorted.proofs.Flags.{AreAny-none}
-use Rattle.iddqd_sorted.proofs.Parts.{inserted-split}
+use Rattle.iddqd_order.proofs.FilterLemmas.{inserted-split}
 use Rattle.iddqd_sorted.proofs.Sorting.{same_key}
 use Rattle.iddqd_sorted.proofs.map.Sorted.insert_noted.Goals as goal
 

@@ -1,7 +1,7 @@
-use Rattle.std.proofs.Common.{◌≡◌, ◌≢◌, ◌+◌, ◌*◌, ◌∙◌, [], sym, ap, subst, map, length, arith}
+use Rattle.std.proofs.Common.{◌∙◌, sym, ap, length, arith}
 use Rattle.std.specs.Ordering.{is_eq}
 use Rattle.std.proofs.lemmas.List.Sorted.{length_permutation}
-use Rattle.iddqd_store.specs.Bag.{conflicting, conflicts_of, do_conflict}
+use Rattle.iddqd_store.specs.Bag.{do_conflict}
 use Rattle.iddqd_store.proofs.MapLemmas.Places.{order_none}
 use Rattle.iddqd_store.proofs.RankLemmas.Placing.{placing}
 use Rattle.iddqd_sorted.specs.Items.{items, bag, by_sort, with_item}

@@ -1,6 +1,6 @@
 use Rattle.iddqd_order.specs.Row.{position}
 use Rattle.iddqd_sorted.specs.Items.{items}
-use Rattle.iddqd_sorted.proofs.Retaining.{drop_here}
+use Rattle.iddqd_order.proofs.RetainLemmas.{drop_here}
 use Rattle.iddqd_sorted.proofs.map.Sorted.item_from.Goals as goal
 
 pub returns-clause-first : goal.returns-clause-first

@@ -1,7 +1,7 @@
 use Rattle.std.proofs.Common.{length, ◌<◌, rules, arith}
 use Rattle.std.specs.Map.Iter.{deref}
 use Rattle.std_collections.proofs.IterRuns.{shows_in_order, shows_in_reverse}
-use Rattle.iddqd_sorted.proofs.Walks.{meets_first, meets_last}
+use Rattle.iddqd_order.proofs.WalkLemmas.{meets_first, meets_last}
 use Rattle.iddqd_sorted.proofs.map.Sorted.iter.Goals as goal
 
 pub over-requires : goal.over-requires

@@ -1,10 +1,9 @@
-use Rattle.std.proofs.Common.{◌≡◌, ◌∙◌, [], None, ap, arith, sym, length, map}
+use Rattle.std.proofs.Common.{◌∙◌, None, ap, arith, sym, length}
 use Rattle.std.specs.Prelude.{nat_eq, slice_set}
 use Rattle.std.proofs.lemmas.List.Elements.{All-tail}
 use Rattle.std.proofs.lemmas.Map.Keys.{IsDistinct-tail}
 use Rattle.iddqd_store.specs.Slots.{IsLive, contents}
 use Rattle.iddqd_store.proofs.MapLemmas.Places.{stand_as}
-use Rattle.iddqd_sorted.specs.Items.{bag}
 use Rattle.iddqd_sorted.specs.Overwriting.{map_of}
 use Rattle.iddqd_sorted.proofs.Overwriting.{AreHashed-left, all_displaced, as_many, fewer_left, gives_way, out, searches_both, still_live, walks_both}
 use Rattle.iddqd_sorted.proofs.map.Sorted.overwrite.Goals as goal

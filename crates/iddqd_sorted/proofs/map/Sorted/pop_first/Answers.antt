@@ -1,4 +1,4 @@
-use Rattle.iddqd_sorted.proofs.Parts.{remove-first}
+use Rattle.iddqd_order.proofs.FilterLemmas.{remove-first}
 use Rattle.iddqd_sorted.proofs.map.Sorted.pop_first.Goals as goal
 
 pub returns-clause-parts : goal.returns-clause-parts

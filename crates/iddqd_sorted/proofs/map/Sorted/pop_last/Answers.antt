@@ -1,6 +1,6 @@
 use Rattle.iddqd_order.specs.Row.{line}
 use Rattle.iddqd_sorted.proofs.Listed.{long}
-use Rattle.iddqd_sorted.proofs.Parts.{remove-last}
+use Rattle.iddqd_order.proofs.FilterLemmas.{remove-last}
 use Rattle.iddqd_sorted.proofs.Sorting.{total}
 use Rattle.iddqd_sorted.proofs.map.Sorted.pop_last.Goals as goal
 

@@ -1,4 +1,4 @@
-use Rattle.std.proofs.Common.{◌≡◌, ◌∙◌, Some, None, false, ap, sym, rules}
+use Rattle.std.proofs.Common.{◌≡◌, ◌∙◌, Some, None, ap, sym, rules}
 use Rattle.std.specs.Prelude.{slice_get, filter}
 use Rattle.std.specs.Ordering.{is_le}
 use Rattle.iddqd_sorted.specs.Items.{items}

@@ -4,7 +4,7 @@ use Rattle.iddqd_sorted.specs.declared.entry.Entry.{Entry}
 use Rattle.iddqd_sorted.specs.Entries.{items_in}
 use Rattle.iddqd_sorted.specs.Items.{SortedValue, items}
 use Rattle.iddqd_sorted.proofs.Listed.{counted-items}
-use Rattle.iddqd_sorted.proofs.Parts.{err_for_all}
+use Rattle.iddqd_order.proofs.FilterLemmas.{err_for_all}
 use Rattle.iddqd_sorted.proofs.Shrinking.{count-relisted, sound-relisted, items-relisted, length-relisted}
 use Rattle.iddqd_sorted.proofs.Sorting.{total}
 use Rattle.iddqd_sorted.proofs.map.Sorted.rebuild.Goals as goal

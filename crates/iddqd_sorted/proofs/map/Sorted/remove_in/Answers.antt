@@ -1,6 +1,5 @@
-use Rattle.std.proofs.Common.{◌≡◌, ◌+◌, ◌≤◌, map, None, ap, subst, arith, length, ℕ}
+use Rattle.std.proofs.Common.{◌≡◌, ◌+◌, map, None, subst, arith}
 use Rattle.std.proofs.lemmas.List.Sorted.{length_permutation}
-use Rattle.iddqd_store.specs.Rank.{walks_within}
 use Rattle.iddqd_store.specs.Slots.{Updates, live_count}
 use Rattle.iddqd_store.proofs.SlotLemmas.Contents.{length-contents}
 use Rattle.iddqd_order.specs.Row.{line, position}

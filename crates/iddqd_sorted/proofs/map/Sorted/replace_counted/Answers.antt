@@ -1,8 +1,8 @@
-use Rattle.std.proofs.Common.{◌≡◌, ◌∙◌, [], ◌∷◌, Some, None, false, sym, ap, subst, arith}
+use Rattle.std.proofs.Common.{◌≡◌, ◌∙◌, [], None, sym, ap, subst, arith}
 use Rattle.std.specs.Prelude.{filter}
 use Rattle.std.specs.Option.{option_to_list}
-use Rattle.iddqd_store.specs.Bag.{agrees, IsOnly}
-use Rattle.iddqd_store.specs.Slots.{get, contents}
+use Rattle.iddqd_store.specs.Bag.{agrees}
+use Rattle.iddqd_store.specs.Slots.{get}
 use Rattle.iddqd_store.proofs.BagLemmas.Same.{agrees-symm}
 use Rattle.iddqd_store.proofs.BagLemmas.Unique.{any_listed, some_item}
 use Rattle.iddqd_order.specs.Row.{line}

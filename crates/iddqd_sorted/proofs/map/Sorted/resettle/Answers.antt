@@ -3,7 +3,7 @@ use Rattle.std.specs.List.{remove}
 use Rattle.std.proofs.lemmas.List.Edits.{length-remove}
 use Rattle.iddqd_order.specs.Row.{line, position}
 use Rattle.iddqd_order.proofs.PlaceLemmas.{position-below}
-use Rattle.iddqd_sorted.proofs.Moving.{set-moved}
+use Rattle.iddqd_sorted.proofs.Staying.{set-moved}
 use Rattle.iddqd_sorted.proofs.Settling.{live_seen, settled, other_searchable, other_gap}
 use Rattle.iddqd_sorted.proofs.Sorting.{total}
 use Rattle.iddqd_sorted.proofs.map.Sorted.resettle.Goals as goal

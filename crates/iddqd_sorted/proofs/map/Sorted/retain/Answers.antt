@@ -5,7 +5,7 @@ use Rattle.std.specs.Fn.{CalledAt}
 use Rattle.iddqd_store.proofs.BagLemmas.Calling.{TakesEach-in_turn, takes_first, takes_others}
 use Rattle.iddqd_sorted.specs.Items.{items}
 use Rattle.iddqd_order.specs.Row.{position, index_of}
-use Rattle.iddqd_sorted.proofs.Retaining.{past_kept, past_taken, none_behind, drop-removed}
+use Rattle.iddqd_order.proofs.RetainLemmas.{past_kept, past_taken, none_behind, drop-removed}
 use Rattle.iddqd_sorted.proofs.map.Sorted.retain.Goals as goal
 
 pub loop-next-init : goal.loop-next-init

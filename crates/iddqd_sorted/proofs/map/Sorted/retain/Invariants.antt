@@ -4,7 +4,7 @@ use Rattle.std.specs.Fn.{CalledAt}
 use Rattle.iddqd_store.proofs.BagLemmas.Calling.{TakesEach}
 use Rattle.iddqd_sorted.specs.Items.{items}
 use Rattle.iddqd_order.specs.Row.{index_of, line, HasEntry}
-use Rattle.iddqd_sorted.proofs.Retaining.{Completes}
+use Rattle.iddqd_order.proofs.RetainLemmas.{Completes}
 use Rattle.iddqd_sorted.proofs.map.Sorted.retain.Given as goal
 
 abbrev pub invariant-loop-next : goal.invariant-loop-next

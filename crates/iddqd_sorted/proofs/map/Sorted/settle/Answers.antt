@@ -1,4 +1,4 @@
-use Rattle.std.proofs.Common.{◌≡◌, ◌∙◌, sym, ap, arith}
+use Rattle.std.proofs.Common.{◌∙◌, sym, ap, arith}
 use Rattle.std.specs.Prelude.{slice_set, slice_index_or, None}
 use Rattle.std.specs.Ordering.{is_eq}
 use Rattle.iddqd_store.specs.Bag.{do_conflict}

@@ -1,16 +1,10 @@
-use Rattle.std.proofs.Common.{◌≡◌, ◌≢◌, ◌+◌, ◌∙◌, true, false, [], sym, ap, subst, map, length, arith}
-use Rattle.std.specs.Prelude.{slice_index_or}
-use Rattle.std.specs.Ordering.{is_eq}
-use Rattle.iddqd_store.specs.Bag.{tests_of, conflicts_of, do_conflict}
+use Rattle.std.proofs.Common.{length, arith}
+use Rattle.iddqd_store.specs.Bag.{tests_of}
 use Rattle.iddqd_store.proofs.MapLemmas.Places.{none_taken}
 use Rattle.iddqd_store.proofs.RankLemmas.Placing.{placing}
-use Rattle.iddqd_order.specs.Row.{position}
-use Rattle.iddqd_sorted.specs.Items.{SortedValue, items, bag, by_sort}
+use Rattle.iddqd_sorted.specs.Items.{items, bag}
 use Rattle.iddqd_sorted.proofs.Costs.{walks_none}
-use Rattle.iddqd_sorted.proofs.Finding.{passes_somewhere}
 use Rattle.iddqd_sorted.proofs.Flags.{AreAny-none}
-use Rattle.iddqd_sorted.proofs.Parts.{inserted-split}
-use Rattle.iddqd_sorted.proofs.Sorting.{same_key}
 use Rattle.iddqd_sorted.proofs.map.Sorted.try_insert_counted.Goals as goal
 use Rattle.iddqd_sorted.proofs.map.Sorted.try_insert_counted.Goals.{in-Ok-insert_free, in-Err-insert_free}
 

@@ -1,8 +1,8 @@
-use Rattle.std.proofs.Common.{◌≡◌, ◌∙◌, refl, ap, arith}
+use Rattle.std.proofs.Common.{◌∙◌, refl, ap, arith}
 use Rattle.iddqd_order.specs.Row.{line, position}
 use Rattle.iddqd_sorted.specs.Items.{by_sort, with_item}
 use Rattle.iddqd_sorted.proofs.Exchanged.{others_left, others_items, written_updates, written_live, written_many, free_written}
-use Rattle.iddqd_sorted.proofs.Keyed.{any_none, any_some, only_some, others_some}
+use Rattle.iddqd_sorted.proofs.Keyed.{any_none, any_some, maps_none, maps_some, only_none, only_some, others_some}
 use Rattle.iddqd_sorted.proofs.Listed.{long}
 use Rattle.iddqd_sorted.proofs.Sorting.{total}
 use Rattle.iddqd_sorted.proofs.map.Sorted.update_by.Goals as goal
@@ -11,6 +11,11 @@ pub returns-in_default-clause-any_found : goal.returns-in_default-clause-any_fou
 returns-in_default-clause-any_found g c =
     let all = total g.M.Item.Sortable.sort_key g.met.M.Item.SortKey.Ord.total g.M.SlotMap.first_key g.met.M.FirstKey.Ord.total in
     rw (← c.self.view_is) (any_none all g.M.Item.Sortable.sort_key (g.M.SlotMap.shown c.self.inside.map).slots (line c.self.inside.order.blocks) c.self.invariant _ c.in_default.ensures.found)
+
+pub returns-in_default-clause-maps : goal.returns-in_default-clause-maps
+returns-in_default-clause-maps g c =
+    let all = total g.M.Item.Sortable.sort_key g.met.M.Item.SortKey.Ord.total g.M.SlotMap.first_key g.met.M.FirstKey.Ord.total in
+    rw (← c.self.view_is) (maps_none _ _ _ _ _ (only_none all g.M.Item.Sortable.sort_key (g.M.SlotMap.shown c.self.inside.map).slots (line c.self.inside.order.blocks) c.self.invariant _ c.in_default.ensures.found))
 
 pub f-d-requires : goal.f-d-requires
 f-d-requires g c =
@@ -22,19 +27,19 @@ f-d-requires g c =
 pub resettle-requires-clause-live : goal.resettle-requires-clause-live
 resettle-requires-clause-live g c =
     let there = rw c.slots.ensures at c.item.ensures in
-    written_live (g.M.SlotMap.shown c.self.inside.map) (g.M.SlotMap.shown c.store_at.new.self) _ (λ z. g.M.StoresData.put z c.f-d.result) c.item.result.now there c.store_at.ensures
+    written_live (g.M.SlotMap.shown c.self.inside.map) (g.M.SlotMap.shown c.store_at.new.self) _ (λ z. g.M.StoresData.put z c.f-d.result) c.item.result.now there c.store_at.ensures.stores
 
 pub resettle-requires-clause-others : goal.resettle-requires-clause-others
 resettle-requires-clause-others g c =
     let all = total g.M.Item.Sortable.sort_key g.met.M.Item.SortKey.Ord.total g.M.SlotMap.first_key g.met.M.FirstKey.Ord.total in
     let there = rw c.slots.ensures at c.item.ensures in
     let at = c.place_of_slot-place.ensures in
-    others_left all g.M.Item.Sortable.sort_key (g.M.SlotMap.shown c.self.inside.map).slots (line c.self.inside.order.blocks) c.self.invariant _ c.item.result.now _ at.within at.slot (g.M.SlotMap.shown c.store_at.new.self).slots _ (written_updates (g.M.SlotMap.shown c.self.inside.map) (g.M.SlotMap.shown c.store_at.new.self) _ (λ z. g.M.StoresData.put z c.f-d.result) c.item.result.now there c.store_at.ensures) (written_many (g.M.SlotMap.shown c.self.inside.map) (g.M.SlotMap.shown c.store_at.new.self) _ (λ z. g.M.StoresData.put z c.f-d.result) c.item.result.now there c.store_at.ensures)
+    others_left all g.M.Item.Sortable.sort_key (g.M.SlotMap.shown c.self.inside.map).slots (line c.self.inside.order.blocks) c.self.invariant _ c.item.result.now _ at.within at.slot (g.M.SlotMap.shown c.store_at.new.self).slots _ (written_updates (g.M.SlotMap.shown c.self.inside.map) (g.M.SlotMap.shown c.store_at.new.self) _ (λ z. g.M.StoresData.put z c.f-d.result) c.item.result.now there c.store_at.ensures.stores) (written_many (g.M.SlotMap.shown c.self.inside.map) (g.M.SlotMap.shown c.store_at.new.self) _ (λ z. g.M.StoresData.put z c.f-d.result) c.item.result.now there c.store_at.ensures.stores)
 
 pub resettle-requires-clause-free : goal.resettle-requires-clause-free
 resettle-requires-clause-free g c =
     let there = rw c.slots.ensures at c.item.ensures in
-    free_written (g.M.SlotMap.shown c.self.inside.map) (g.M.SlotMap.shown c.store_at.new.self) _ (λ z. g.M.StoresData.put z c.f-d.result) c.item.result.now there c.store_at.ensures g.M.SlotMap.ranks g.met.M.SlotMap.lawful c.len.ensures.sound (g.met.M.StoresData.keeps_keys c.item.result.now c.f-d.result)
+    free_written (g.M.SlotMap.shown c.self.inside.map) (g.M.SlotMap.shown c.store_at.new.self) _ (λ z. g.M.StoresData.put z c.f-d.result) c.item.result.now there c.store_at.ensures.stores g.M.SlotMap.ranks g.met.M.SlotMap.lawful c.store_at.ensures.sound (g.met.M.StoresData.keeps_keys c.item.result.now c.f-d.result)
 
 pub invariant_of-self : goal.invariant_of-self
 invariant_of-self g c = c.resettle.ensures.settles.listed
@@ -54,8 +59,8 @@ returns-clause-stores g c = λ _.
     let there = rw c.slots.ensures at c.item.ensures in
     let at = c.place_of_slot-place.ensures in
     let p = position c.self.inside.order.blocks c.place_of_slot-place.result in
-    let updates = written_updates (g.M.SlotMap.shown c.self.inside.map) (g.M.SlotMap.shown c.store_at.new.self) _ (λ z. g.M.StoresData.put z c.f-d.result) c.item.result.now there c.store_at.ensures in
-    let left = others_items all g.M.Item.Sortable.sort_key slots es c.self.invariant _ x p at.within at.slot (g.M.SlotMap.shown c.store_at.new.self).slots y updates (written_many (g.M.SlotMap.shown c.self.inside.map) (g.M.SlotMap.shown c.store_at.new.self) _ (λ z. g.M.StoresData.put z c.f-d.result) c.item.result.now there c.store_at.ensures) in
+    let updates = written_updates (g.M.SlotMap.shown c.self.inside.map) (g.M.SlotMap.shown c.store_at.new.self) _ (λ z. g.M.StoresData.put z c.f-d.result) c.item.result.now there c.store_at.ensures.stores in
+    let left = others_items all g.M.Item.Sortable.sort_key slots es c.self.invariant _ x p at.within at.slot (g.M.SlotMap.shown c.store_at.new.self).slots y updates (written_many (g.M.SlotMap.shown c.self.inside.map) (g.M.SlotMap.shown c.store_at.new.self) _ (λ z. g.M.StoresData.put z c.f-d.result) c.item.result.now there c.store_at.ensures.stores) in
     let others = others_some all g.M.Item.Sortable.sort_key slots es c.self.invariant _ _ c.in-Some.ensures.found x there p at.within at.slot in
     rw (← c.self.view_is) (record {
       item = x;
@@ -64,6 +69,9 @@ returns-clause-stores g c = λ _.
       answered = (c.item.result, c.f-d.ensures, refl);
       lists = c.resettle.ensures.settles.items y updates.changed ∙ ap (λ l. with_item (by_sort g.M.Item.Sortable.sort_key g.M.Item.SortKey.Ord.cmp g.M.SlotMap.first_key g.M.FirstKey.Ord.cmp) l y) (left ∙ others);
     }))
+
+pub returns-clause-maps : goal.returns-clause-maps
+returns-clause-maps g c = maps_some _ _ _ _ _ _ (returns-clause-stores g c refl)
 
 pub returns-clause-asked : goal.returns-clause-asked
 returns-clause-asked g c = λ r few.

@@ -1,7 +1,7 @@
 use Rattle.std.proofs.Common.{◌≡◌, true, rules}
 use Rattle.iddqd_order.specs.Row.{entries_in, position}
 use Rattle.iddqd_order.proofs.PlaceLemmas.{position-below}
-use Rattle.iddqd_sorted.proofs.Moving.{gap_left}
+use Rattle.iddqd_sorted.proofs.Staying.{gap_left}
 use Rattle.iddqd_sorted.proofs.map.settle.stays_in.Goals as goal
 
 pub returns-clause-gap : goal.returns-clause-gap

@@ -1,0 +1,20 @@
+use Rattle.std.proofs.Common.{◌≡◌, List, [], subst, ap, ◌∙◌, rules}
+use Rattle.std.specs.Prelude.{fold}
+use Rattle.iddqd_store.specs.Bag.{conflicts_of}
+use Rattle.iddqd_store.proofs.BagLemmas.Building.{GivesThen-weaker}
+use Rattle.iddqd_store.proofs.MapLemmas.{at_err}
+use Rattle.iddqd_sorted.specs.Items.{by_sort}
+use Rattle.iddqd_sorted.specs.Overwriting.{overwritten}
+use Rattle.iddqd_sorted.proofs.map.Sorted.from_iter.Goals as goal
+
+pub returns-in_err-extend-clause-refused : goal.returns-in_err-extend-clause-refused
+returns-in_err-extend-clause-refused g c =
+    let ranks = g.M.SlotMap.ranks in
+    let by = by_sort g.M.Item.Sortable.sort_key g.M.Item.SortKey.Ord.cmp g.M.SlotMap.first_key g.M.FirstKey.Ord.cmp in
+    let failed = c.in_err-extend.ensures in
+    let x = c.in_err-extend.field-0.0.value in
+    at_err c.from_residual.result c.in_err-extend.field-0.0 _ (search rules)
+    (GivesThen-weaker g.I.IntoIterator.into_iter_gives g.I.IntoIter.Iterator.next_gives c.args.iter x _ _
+    (λ xs made. subst (λ (l : List g.row.M-Item.Denot). conflicts_of ranks l x ≡ [])
+    (made ∙ ap (λ (l : List g.row.M-Item.Denot). fold (overwritten ranks by) l xs) c.new-map.ensures.empty) failed.full.free)
+    failed.refused)
