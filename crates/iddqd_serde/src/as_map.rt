@@ -16,14 +16,14 @@
 //! (`counts`), and those whose key it has compared with the first key of the item and found equal (`agrees`). Both are
 //! as many as the map has items. No clause of a public function says so, or which keys and items were read, since the
 //! contracts of `serde` say nothing of what a derived `Deserialize` reads.
-ghost use Rattle.std.specs.Prelude.{◌≡◌, ◌+◌, [], length, IfOk, MatchBool, OnOk, if◌then◌else◌};
+ghost use Rattle.std.specs.Prelude.{◌≡◌, ◌+◌, [], length, IfOk, OnOk};
 ghost use Rattle.iddqd_store.specs.Map.{bag};
 ghost use Rattle.iddqd_serde.specs.Entries.{entries};
 ghost use Rattle.iddqd_serde.specs.Reading.{ReadsMap};
-ghost use Rattle.serde.specs.Event.{WritesMap, key_begins, map_ends};
-ghost use Rattle.serde.specs.Steps.{Gives};
+ghost use Rattle.serde.specs.Event.{WritesMap};
 
 use crate::put;
+use crate::reading::{agree, next_entry, other_key};
 use iddqd_store::{Meter, SlotMap};
 use serde::{
     Described, Deserialize, DeserializeOwned, Deserializer, Format, Serialize, Serializer,
@@ -103,7 +103,7 @@ where
 {
     from.begin_map()?;
     for _ in 0..u64::MAX {
-        if !next(from, read)? {
+        if !next_entry(from, read)? {
             return Ok(());
         }
         let key = M::FirstKey::deserialize(alloc, from)?;
@@ -155,7 +155,7 @@ where
 {
     from.begin_map()?;
     for _ in 0..u64::MAX {
-        if !next(from, read)? {
+        if !next_entry(from, read)? {
             return Ok(());
         }
         let key = M::FirstKey::deserialize_owned(alloc, from)?;
@@ -167,36 +167,6 @@ where
         put(map, item, from)?;
     }
     Err(from.no_memory())
-}
-
-/// Returns whether a further entry of the map follows, and counts it if one does.
-fn next<F: Format>(from: &mut Deserializer<'_, '_, F>, read: &mut Meter) -> Result<bool, F::Error>
-    ensures { IfOk result (λ follows. MatchBool follows
-        (Gives F.gives from.old key_begins from.new × (read.new ≡ read.old + 1))
-        (Gives F.gives from.old map_ends from.new × (read.new ≡ read.old))) }
-{
-    let follows = from.next_entry()?;
-    if follows {
-        read.tick();
-    }
-    Ok(follows)
-}
-
-/// Returns the error of an entry whose key is not the first key of its item. A format says in it where the reader stands.
-fn other_key<F: Format>(from: &Deserializer<'_, '_, F>) -> F::Error {
-    from.custom("a key that is not its item's")
-}
-
-/// Returns whether the key of an entry is equal to the first key of its item, and counts the entry if it is.
-fn agree<M: SlotMap>(key: &M::FirstKey, item: &M::Item, agreed: &mut Meter) -> bool
-    ensures value { result ≡ M.FirstKey.eq key.now (M.first_key item.now) }
-    ensures counts { agreed.new ≡ (if result then agreed.old + 1 else agreed.old) }
-{
-    let is_equal = *key == *M::first_key(item);
-    if is_equal {
-        agreed.tick();
-    }
-    is_equal
 }
 
 /// A map that is written and read with each item behind its first key: `AsMap(map)` can be written by itself, for example by

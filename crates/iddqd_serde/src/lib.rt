@@ -16,14 +16,15 @@
 //! a map that is written and read again is equal to the first.
 #![tactic(auto)]
 
-ghost use Rattle.std.specs.Prelude.{◌≡◌, ◌+◌, [], length, IfOk, MatchBool, OnOk};
+ghost use Rattle.std.specs.Prelude.{◌≡◌, ◌+◌, [], length, IfOk, OnOk};
 ghost use Rattle.iddqd_store.specs.Map.{Gains, bag};
 ghost use Rattle.iddqd_serde.specs.Reading.{ReadsSeq};
-ghost use Rattle.serde.specs.Event.{WritesSeq, seq_ends};
-ghost use Rattle.serde.specs.Steps.{Gives, Stays};
+ghost use Rattle.serde.specs.Event.{WritesSeq};
 
 pub mod as_map;
+pub mod reading;
 
+use crate::reading::{equal_key, next_item};
 use iddqd_store::{AHEAD, Costs, Meter, SlotMap};
 use serde::{
     Described, Deserialize, DeserializeOwned, Deserializer, Format, Serialize, Serializer,
@@ -89,7 +90,7 @@ where
 {
     from.begin_seq()?;
     for _ in 0..u64::MAX {
-        if !next(from, items)? {
+        if !next_item(from, items)? {
             return Ok(());
         }
         let item = M::Item::deserialize(alloc, from)?;
@@ -132,26 +133,13 @@ where
 {
     from.begin_seq()?;
     for _ in 0..u64::MAX {
-        if !next(from, items)? {
+        if !next_item(from, items)? {
             return Ok(());
         }
         let item = M::Item::deserialize_owned(alloc, from)?;
         put(map, item, from)?;
     }
     Err(from.no_memory())
-}
-
-/// Returns whether a further item of the sequence follows, and counts it if one does.
-fn next<F: Format>(from: &mut Deserializer<'_, '_, F>, items: &mut Meter) -> Result<bool, F::Error>
-    ensures { IfOk result (λ follows. MatchBool follows
-        (Stays F.stays from.old from.new × (items.new ≡ items.old + 1))
-        (Gives F.gives from.old seq_ends from.new × (items.new ≡ items.old))) }
-{
-    let follows = from.next_item()?;
-    if follows {
-        items.tick();
-    }
-    Ok(follows)
 }
 
 /// Inserts an item that was read. The error says in the words of the format why it could not be inserted.
@@ -165,7 +153,7 @@ where
     ensures gains { OnOk result (Gains (M.shown map.old) item (M.shown map.new)) }
 {
     let Ok(at) = map.places(&item, &mut Costs::new()) else {
-        return Err(from.custom("an item with an equal key"));
+        return Err(equal_key(from));
     };
     if map.len() == map.capacity() {
         if let Err(_) = map.grow(1, AHEAD) {

@@ -9,7 +9,7 @@ use Rattle.iddqd_serde.proofs.fill_owned.Goals as goal
 -- the sequence ends after the items that were read
 pub returns-then-not-branch-clause-reads : goal.returns-then-not-branch-clause-reads
 returns-then-not-branch-clause-reads g c =
-    let ended : Gives g.F.Format.gives c.loop.from seq_ends c.next.new.from = search rules in
+    let ended : Gives g.F.Format.gives c.loop.from seq_ends c.next_item.new.from = search rules in
     (c.loop.from, c.loop.invariant.0, ended)
 
 -- the map and what was read get one item more
@@ -17,9 +17,9 @@ pub loop-preserved : goal.loop-preserved
 loop-preserved g c =
     let gains = c.in_ok-put.ensures.gains in
     let more = length-inserted (bag (g.M.SlotMap.shown c.loop.map)) (bag (g.M.SlotMap.shown c.put.new.map)) c.in_ok-item.item gains.items in
-    let found : Stays g.F.Format.stays c.loop.from c.next.new.from = search rules in
-    let counted : c.next.new.items ≡ c.loop.items + 1 = search rules in (
-      HasRead-more _ _ _ _ c.args.from.now c.loop.from c.next.new.from _ more c.loop.invariant.0 found,
+    let found : Stays g.F.Format.stays c.loop.from c.next_item.new.from = search rules in
+    let counted : c.next_item.new.read ≡ c.loop.items + 1 = search rules in (
+      HasRead-more _ _ _ _ c.args.from.now c.loop.from c.next_item.new.from _ more c.loop.invariant.0 found,
       rw gains.same_builder c.loop.invariant.1,
       omega (arith, more, c.loop.invariant.2, counted),
     )

@@ -9,7 +9,7 @@ use Rattle.iddqd_serde.proofs.as_map.fill.Goals as goal
 -- the map of serde ends after the entries that were read
 pub returns-then-not-branch-clause-reads : goal.returns-then-not-branch-clause-reads
 returns-then-not-branch-clause-reads g c =
-    let ended : Gives g.F.Format.gives c.loop.from map_ends c.next.new.from = search rules in
+    let ended : Gives g.F.Format.gives c.loop.from map_ends c.next_entry.new.from = search rules in
     (c.loop.from, c.loop.invariant.0, ended)
 
 -- the map and what was read get one item more
@@ -17,10 +17,10 @@ pub loop-preserved : goal.loop-preserved
 loop-preserved g c =
     let gains = c.in_ok-put.ensures.gains in
     let more = length-inserted (bag (g.M.SlotMap.shown c.loop.map)) (bag (g.M.SlotMap.shown c.put.new.map)) c.in_ok-item.item gains.items in
-    let found : Gives g.F.Format.gives c.loop.from key_begins c.next.new.from = search rules in
-    let counted : c.next.new.read ≡ c.loop.read + 1 = search rules in
+    let found : Gives g.F.Format.gives c.loop.from key_begins c.next_entry.new.from = search rules in
+    let counted : c.next_entry.new.read ≡ c.loop.read + 1 = search rules in
     let agreed : c.agree.new.agreed ≡ c.loop.agreed + 1 = search rules in (
-      HasRead-more _ _ _ _ c.args.from.now c.loop.from c.next.new.from _ more c.loop.invariant.0 found,
+      HasRead-more _ _ _ _ c.args.from.now c.loop.from c.next_entry.new.from _ more c.loop.invariant.0 found,
       rw gains.same_builder c.loop.invariant.1,
       omega (arith, more, c.loop.invariant.2, counted),
       omega (arith, more, c.loop.invariant.3, agreed),

@@ -1,0 +1,22 @@
+use Rattle.std.proofs.Common.{rules, ◌≡◌, ◌+◌, arith}
+use Rattle.serde.specs.Event.{seq_ends}
+use Rattle.serde.specs.Steps.{Gives, Stays}
+use Rattle.iddqd_serde.proofs.Counting.{HasRead-more}
+use Rattle.iddqd_serde_sorted.proofs.fill.Goals as goal
+
+-- the sequence ends after the items that were read
+pub returns-then-not-branch-clause-reads : goal.returns-then-not-branch-clause-reads
+returns-then-not-branch-clause-reads g c =
+    let ended : Gives g.F.Format.gives c.loop.from seq_ends c.next_item.new.from = search rules in
+    (c.loop.from, c.loop.invariant.0, ended)
+
+-- the map and what was read get one item more
+pub loop-preserved : goal.loop-preserved
+loop-preserved g c =
+    let more = c.in_ok-put.ensures.more in
+    let found : Stays g.F.Format.stays c.loop.from c.next_item.new.from = search rules in
+    let counted : c.next_item.new.read ≡ c.loop.read + 1 = search rules in (
+      HasRead-more _ _ _ _ c.args.from.now c.loop.from c.next_item.new.from _ more c.loop.invariant.0 found,
+      rw c.in_ok-put.ensures.gains.same_builder c.loop.invariant.1,
+      omega (arith, more, c.loop.invariant.2, counted),
+    )
