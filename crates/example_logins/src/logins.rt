@@ -1,9 +1,10 @@
 //! Logins, each known by its number and by its token, in the order of the times at which they were last seen.
-ghost use Rattle.std.specs.Prelude.{◌≡◌, ◌<◌, ◌==◌, ◌∷◌, true, false, filter, nat_eq, nat_le, length, slice_get, IsOk, OnOk, OnErr, IfErr, IfSome, IfNone, option_copied, []};
+ghost use Rattle.std.specs.Prelude.{◌≡◌, ◌<◌, ◌==◌, ◌∷◌, true, false, filter, map, not, nat_eq, nat_le, length, slice_get, IsOk, OnOk, OnErr, IfErr, IfSome, IfNone, option_copied, []};
 ghost use Rattle.std.proofs.Common.{rules};
 ghost use Rattle.std.specs.List.{list_any};
 ghost use Rattle.std.specs.Ordering.{nat_cmp};
 ghost use Rattle.iddqd_store.specs.Bag.{IsOnly, conflicts_of};
+ghost use Rattle.iddqd_sorted.specs.Batches.{with_items};
 ghost use Rattle.iddqd_sorted.specs.Items.{by_sort, items, with_item};
 
 use iddqd_bi::{BiHashItem, BiHashItemMut, Ranked, Rejected};
@@ -88,10 +89,13 @@ pub fn by_token(logins: &Logins, token: u64) -> Option<&Login>
     logins.get2(&token)
 }
 
-/// Notes that the login with this token was seen now, and returns whether there is one. The login moves to the place of this time, and
-/// no table is written.
+/// Notes that the login with this token was seen now, and returns whether there is one. It moves to the place of this time, and the
+/// others stay in their order. No table is written.
 pub fn touch(logins: &mut Logins, token: u64, now: u64) -> bool
     ensures found { result ≡ list_any (λ l. token == l.token) (items logins.old) }
+    ensures moved { items logins.new ≡ with_items (by_sort (λ l. l.seen) nat_cmp (λ l. l.number) nat_cmp)
+        (filter (λ l. not (token == l.token)) (items logins.old))
+        (map (λ (l : Login). record l { seen = now }) (filter (λ l. token == l.token) (items logins.old))) }
     ensures unchanged { result ≡ false → logins.new ≡ logins.old }
     ensures capacity { logins.new.capacity ≡ logins.old.capacity }
 {

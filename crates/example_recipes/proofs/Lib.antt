@@ -1,6 +1,7 @@
 mod Loading
 mod OrderLemmas
 mod Paying
+mod Refusing
 mod Swapping
 mod Transfers
 mod Undone

@@ -1,5 +1,5 @@
 //! Batches of orders of which some are refused: a report of all of these, and a load of all others.
-ghost use Rattle.std.specs.Prelude.{◌≡◌, ◌++◌, IfOk, OnErr, IsPermutation};
+ghost use Rattle.std.specs.Prelude.{◌≡◌, ◌++◌, map as mapped, IfOk, OnErr, IsPermutation};
 ghost use Rattle.iddqd_bi.specs.Map.{bag};
 ghost use Rattle.example_recipes.specs.Loading.{left_over};
 
@@ -13,7 +13,10 @@ pub fn refused<'b>(
     alloc: Global,
     orders: &BiHashMap<Order>,
     batch: &'b [Order],
-) -> Result<Vec<&'b Order>, AllocError> {
+) -> Result<Vec<&'b Order>, AllocError>
+    ensures { IfOk result (λ refused. mapped (λ o. o.now) refused.items
+        ≡ left_over ⟦<Order as Ranked>⟧.ranks (bag orders.now) batch.now) }
+{
     let mut added = BiHashMap::<&Order>::with_capacity(alloc, batch.len())?;
     let mut refused = Vec::new(alloc);
     for order in batch {

@@ -22,7 +22,7 @@ mod sessions;
 
 use crate::saved::{Fault, Saved};
 use crate::sessions::{Peer, Session, Sessions, by_token, count, expire, open, touch, with_peer};
-use iddqd_tri::TriHashMap;
+use iddqd_sorted::TriHashOrdMap;
 use std::hash::RandomState;
 use std::io::BufRead;
 use std::{io, mem};
@@ -117,14 +117,6 @@ fn show_fault(rt: &impl Print, fault: Fault) -> io::Result<()> {
     }
 }
 
-/// Opens the sessions that were saved, all or none, and prints the outcome.
-fn answer_restore(rt: &impl Print, sessions: &mut Sessions, saved: Saved) -> io::Result<()> {
-    match saved.open(sessions) {
-        Ok(count) => println!(rt; "restored {count}"),
-        Err(fault) => show_fault(rt, fault),
-    }
-}
-
 /// Carries out the command of a line, and prints the answer.
 fn answer(
     rt: &(impl Print + AllocGlobal),
@@ -150,11 +142,10 @@ fn answer(
             saved.add(line, session)?;
             rt.println("noted")
         }
-        Command::Restore => answer_restore(
-            rt,
-            sessions,
-            mem::replace(saved, Saved::new(rt.alloc())),
-        ),
+        Command::Restore => match mem::replace(saved, Saved::new(rt.alloc())).open(sessions) {
+            Ok(count) => println!(rt; "restored {count}"),
+            Err(fault) => show_fault(rt, fault),
+        },
     }
 }
 
@@ -191,7 +182,7 @@ fn answer_lines(
 }
 
 fn main(rt: HostRuntime) -> io::Result<()> {
-    let mut sessions = TriHashMap::with_hasher(rt.alloc(), RandomState::new(&rt)?);
+    let mut sessions = TriHashOrdMap::with_hasher(rt.alloc(), RandomState::new(&rt)?);
     let mut saved = Saved::new(rt.alloc());
     answer_lines(&rt, &mut sessions, &mut saved)
 }

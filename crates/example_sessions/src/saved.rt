@@ -1,44 +1,37 @@
 //! Sessions that were saved, which are opened again as a whole, or not at all.
 ghost use Rattle.std.specs.Prelude.{◌≡◌, ◌<◌, ◌==◌, ◌||◌, ◌++◌, ◌∷◌, [], ℕ, true, false, Some, length, take, slice_get, IsPermutation, OnOk, OnErr, IfOk, IfErr, IfSome, IfNone, IsSomeAnd};
 ghost use Rattle.std.specs.List.{list_any};
-ghost use Rattle.iddqd_tri.specs.Map.{bag};
+ghost use Rattle.std.specs.Ordering.{nat_cmp};
+ghost use Rattle.iddqd_sorted.specs.Batches.{with_items};
+ghost use Rattle.iddqd_sorted.specs.Items.{by_sort, items};
 
 use crate::sessions::{Peer, Session, Sessions};
+use iddqd_sorted::ExtendUniqueError;
+use iddqd_tri::Rejected;
 use std::alloc::{AllocError, Global};
 
-/// Why saved sessions were not opened: the one that was rejected, those before it, and which of its keys one of these or
-/// of the open sessions has. If none is taken, there was no memory.
-#[derive(Drop)]
-struct Rejected {
-    session: Session,
-    before: Vec<Session>,
-    id_taken: bool,
-    token_taken: bool,
-    peer_taken: bool,
-}
-
-/// Opens saved sessions as a whole. If that fails, none is opened, and the error says which one was rejected.
-fn open_all(sessions: &mut Sessions, saved: Vec<Session>) -> Result<(), Rejected>
-    ensures all { OnOk result (IsPermutation (bag sessions.new) (saved.items ++ bag sessions.old)) }
-    ensures none { OnErr result (IsPermutation (bag sessions.new) (bag sessions.old)) }
-    ensures which { IfErr result (λ e. slice_get saved.items (length e.before.items) ≡ Some e.session) }
+/// Opens saved sessions as a whole, each at its place. If that fails, none is opened, and the error has the one that was
+/// rejected, those before it, and which of its keys one of these or of the open sessions has. If none is taken, there was no memory.
+fn open_all(
+    sessions: &mut Sessions,
+    saved: Vec<Session>,
+) -> Result<(), ExtendUniqueError<Session, Rejected<Session>>>
+    ensures all { OnOk result (IsPermutation (items sessions.new) (saved.items ++ items sessions.old)) }
+    ensures in_order { OnOk result (items sessions.new
+        ≡ with_items (by_sort (λ s. s.seen) nat_cmp (λ s. s.id) nat_cmp) (items sessions.old) saved.items) }
+    ensures none { OnErr result (items sessions.new ≡ items sessions.old) }
+    ensures which { IfErr result (λ e. slice_get saved.items (length e.before.items) ≡ Some e.rejected.item) }
     ensures before { IfErr result (λ e. take (length e.before.items) saved.items ≡ e.before.items) }
-    ensures id_taken { IfErr result (λ e. e.id_taken
-        ≡ list_any (λ s. e.session.id == s.id) (e.before.items ++ bag sessions.old)) }
-    ensures token_taken { IfErr result (λ e. e.token_taken
-        ≡ list_any (λ s. e.session.token == s.token) (e.before.items ++ bag sessions.old)) }
-    ensures peer_taken { IfErr result (λ e. e.peer_taken
-        ≡ list_any (λ s. ⟦<Peer as PartialEq>⟧.eq e.session.peer s.peer) (e.before.items ++ bag sessions.old)) }
+    ensures id_taken { IfErr result (λ e. e.rejected.taken1
+        ≡ list_any (λ s. e.rejected.item.id == s.id) (e.before.items ++ items sessions.old)) }
+    ensures token_taken { IfErr result (λ e. e.rejected.taken2
+        ≡ list_any (λ s. e.rejected.item.token == s.token) (e.before.items ++ items sessions.old)) }
+    ensures peer_taken { IfErr result (λ e. e.rejected.taken3
+        ≡ list_any (λ s. ⟦<Peer as PartialEq>⟧.eq e.rejected.item.peer s.peer) (e.before.items ++ items sessions.old)) }
 {
     match sessions.extend_unique(saved) {
         Ok(()) => Ok(()),
-        Err(refused) => Err(Rejected {
-            session: refused.item,
-            before: refused.before,
-            id_taken: refused.taken1,
-            token_taken: refused.taken2,
-            peer_taken: refused.taken3,
-        }),
+        Err(rejected) => Err(rejected),
     }
 }
 
@@ -70,19 +63,19 @@ pub struct Fault {
     pub earlier: Option<u64>,
 }
 
-/// Returns what is wrong with a session that was rejected. The lines are those of the saved sessions.
-fn fault_of(rejected: &Rejected, lines: &[u64]) -> Fault
-    requires { length rejected.now.before.items < length lines.now }
-    ensures line { slice_get lines.now (length rejected.now.before.items) ≡ Some result.line }
-    ensures keys { (result.id ≡ rejected.now.id_taken) × (result.token ≡ rejected.now.token_taken)
-        × (result.peer ≡ rejected.now.peer_taken) }
+/// Returns what is wrong with a session that was rejected, behind those before it. The lines are those of the saved sessions.
+fn fault_of(before: &[Session], rejected: &Rejected<Session>, lines: &[u64]) -> Fault
+    requires { length before.now < length lines.now }
+    ensures line { slice_get lines.now (length before.now) ≡ Some result.line }
+    ensures keys { (result.id ≡ rejected.now.taken1) × (result.token ≡ rejected.now.taken2)
+        × (result.peer ≡ rejected.now.taken3) }
 {
     Fault {
-        line: lines[rejected.before.len()],
-        id: rejected.id_taken,
-        token: rejected.token_taken,
-        peer: rejected.peer_taken,
-        earlier: match first_like(rejected.before.as_slice(), &rejected.session) {
+        line: lines[before.len()],
+        id: rejected.taken1,
+        token: rejected.taken2,
+        peer: rejected.taken3,
+        earlier: match first_like(before, &rejected.item) {
             Some(at) => lines.get(at).copied(),
             None => None,
         },
@@ -124,16 +117,14 @@ impl Saved {
     /// Opens all of the sessions, and returns how many they are, or none of them.
     pub fn open(self, sessions: &mut Sessions) -> Result<usize, Fault>
         ensures all { IfOk result (λ count. (count ≡ length self.sessions.items)
-            × IsPermutation (bag sessions.new) (self.sessions.items ++ bag sessions.old)) }
-        ensures none { OnErr result (IsPermutation (bag sessions.new) (bag sessions.old)) }
+            × IsPermutation (items sessions.new) (self.sessions.items ++ items sessions.old)) }
+        ensures in_order { OnOk result (items sessions.new
+            ≡ with_items (by_sort (λ s. s.seen) nat_cmp (λ s. s.id) nat_cmp) (items sessions.old) self.sessions.items) }
+        ensures none { OnErr result (items sessions.new ≡ items sessions.old) }
     {
-        let Saved {
-            sessions: saved,
-            lines,
-        } = self;
-        match open_all(sessions, saved) {
-            Ok(()) => Ok(lines.len()),
-            Err(rejected) => Err(fault_of(&rejected, lines.as_slice())),
+        match open_all(sessions, self.sessions) {
+            Ok(()) => Ok(self.lines.len()),
+            Err(e) => Err(fault_of(e.before.as_slice(), &e.rejected, self.lines.as_slice())),
         }
     }
 }

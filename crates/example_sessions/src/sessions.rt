@@ -1,10 +1,15 @@
-//! A table of sessions, each known by its number, by its token and by the peer that it is with.
-ghost use Rattle.std.specs.Prelude.{◌≡◌, ◌==◌, false, Some, None, filter, nat_le, length, IsPermutation, OnOk, OnErr, IfOk, IfErr, option_copied};
+//! Sessions, each known by its number, by its token and by the peer that it is with, the one that was not seen for longest first.
+ghost use Rattle.std.specs.Prelude.{◌≡◌, ◌==◌, false, filter, map, nat_le, not, length, OnOk, OnErr, IfOk, IfErr, option_copied};
 ghost use Rattle.std.proofs.Common.{rules};
-ghost use Rattle.iddqd_tri.specs.Bag.{IsOnly, conflicting, with_item, swap};
-ghost use Rattle.iddqd_tri.specs.Map.{IsFullFor, bag};
+ghost use Rattle.std.specs.List.{list_any};
+ghost use Rattle.std.specs.Ordering.{nat_cmp};
+ghost use Rattle.iddqd_store.specs.Bag.{IsOnly, conflicting};
+ghost use Rattle.iddqd_sorted.specs.Batches.{with_items};
+ghost use Rattle.iddqd_sorted.specs.Items.{IsFullFor, by_sort, items};
+ghost use Rattle.iddqd_sorted.specs.Overwriting.{overwritten};
 
-use iddqd_tri::{MemoryRefused, Ranked, TriHashItem, TriHashItemMut, TriHashMap, UpToThree};
+use iddqd_sorted::{Sortable, TriHashOrdMap};
+use iddqd_tri::{MemoryRefused, Ranked, TriHashItem, TriHashItemMut, UpToThree};
 use std::hash::RandomState;
 
 /// The address of a peer.
@@ -54,7 +59,7 @@ impl TriHashItemMut for Session {
 
     ghost data_of = { λ s. s.seen };
 
-    ghost put = { λ s t. record s { seen = t } };
+    ghost put = { λ s seen. record s { seen = seen } };
 
     ghost keeps_key1 = { Prim.search rules };
 
@@ -69,18 +74,28 @@ impl TriHashItemMut for Session {
     }
 }
 
+impl Sortable for Session {
+    type SortKey = u64;
+
+    ghost sort_key = { λ s. s.seen };
+
+    fn sort_key(&self) -> u64 {
+        self.seen
+    }
+}
+
 /// The open sessions. Attackers may choose the tokens and the peers, so the hashes have a random seed. With a fixed
 /// seed, attackers could choose keys with the same home bucket in the table, and each lookup would probe them all.
-pub type Sessions = TriHashMap<Session, RandomState>;
+pub type Sessions = TriHashOrdMap<Session, RandomState>;
 
 /// Opens a session. The sessions with its number, its token or its peer are closed, and returned in this order.
 pub fn open(
     sessions: &mut Sessions,
     session: Session,
 ) -> Result<UpToThree<Session>, MemoryRefused<Session>>
-    ensures opened { OnOk result (IsPermutation (bag sessions.new)
-        (with_item ⟦<Session as Ranked>⟧.ranks (bag sessions.old) session)) }
-    ensures closed { IfOk result (λ closed. closed ≡ conflicting ⟦<Session as Ranked>⟧.ranks (bag sessions.old) session) }
+    ensures opened { OnOk result (items sessions.new ≡ overwritten ⟦<Session as Ranked>⟧.ranks
+        (by_sort (λ s. s.seen) nat_cmp (λ s. s.id) nat_cmp) (items sessions.old) session) }
+    ensures closed { IfOk result (λ closed. closed ≡ conflicting ⟦<Session as Ranked>⟧.ranks (items sessions.old) session) }
     ensures unchanged { OnErr result (sessions.new ≡ sessions.old) }
     ensures reason { OnErr result (IsFullFor ⟦<Session as Ranked>⟧.ranks sessions.old session) }
     ensures handed_back { IfErr result (λ e. e.value ≡ session) }
@@ -90,47 +105,40 @@ pub fn open(
 
 /// Returns the session with this token, if there is one.
 pub fn by_token(sessions: &Sessions, token: u64) -> Option<&Session>
-    ensures { IsOnly (λ s. token == s.token) (bag sessions.now) (option_copied result) }
+    ensures { IsOnly (λ s. token == s.token) (items sessions.now) (option_copied result) }
 {
     sessions.get2(&token)
 }
 
 /// Returns the session with this peer, if there is one.
 pub fn with_peer<'s>(sessions: &'s Sessions, peer: &Peer) -> Option<&'s Session>
-    ensures { IsOnly (λ s. ⟦<Peer as PartialEq>⟧.eq peer.now s.peer) (bag sessions.now) (option_copied result) }
+    ensures { IsOnly (λ s. ⟦<Peer as PartialEq>⟧.eq peer.now s.peer) (items sessions.now) (option_copied result) }
 {
     sessions.get3(peer)
 }
 
-/// Notes when the session with this token was last seen, and returns whether there is one.
+/// Notes when the session with this token was last seen, and returns whether there is one. It moves to the place of this time.
 pub fn touch(sessions: &mut Sessions, token: u64, now: u64) -> bool
-    ensures present { (s : Session) → IsOnly (λ s. token == s.token) (bag sessions.old) (Some s)
-        → IsPermutation (bag sessions.new)
-        (swap ⟦<Session as Ranked>⟧.ranks (bag sessions.old) s (record s { seen = now })) }
-    ensures absent { result ≡ false → IsOnly (λ s. token == s.token) (bag sessions.old) None }
+    ensures found { result ≡ list_any (λ s. token == s.token) (items sessions.old) }
+    ensures moved { items sessions.new ≡ with_items (by_sort (λ s. s.seen) nat_cmp (λ s. s.id) nat_cmp)
+        (filter (λ s. not (token == s.token)) (items sessions.old))
+        (map (λ (s : Session). record s { seen = now }) (filter (λ s. token == s.token) (items sessions.old))) }
     ensures unchanged { result ≡ false → sessions.new ≡ sessions.old }
-    ensures none { IsOnly (λ s. token == s.token) (bag sessions.old) None → result ≡ false }
 {
-    match sessions.get2_mut(&token) {
-        Some(mut session) => {
-            *session.data_mut() = now;
-            true
-        }
-        None => false,
-    }
+    sessions.update2(&token, |_| now)
 }
 
-/// Closes the sessions that have not been seen since this time.
+/// Closes the sessions that have not been seen since this time. It looks at these alone, and at one more.
 pub fn expire(sessions: &mut Sessions, since: u64)
-    ensures closed { IsPermutation (bag sessions.new) (filter (λ s. nat_le since s.seen) (bag sessions.old)) }
+    ensures closed { items sessions.new ≡ filter (λ s. nat_le since s.seen) (items sessions.old) }
     ensures capacity { sessions.new.capacity ≡ sessions.old.capacity }
 {
-    sessions.retain(|session| session.seen >= since);
+    sessions.drop_before(&since);
 }
 
 /// Returns how many sessions are open.
 pub fn count(sessions: &Sessions) -> usize
-    ensures { result ≡ length (bag sessions.now) }
+    ensures { result ≡ length (items sessions.now) }
 {
     sessions.len()
 }

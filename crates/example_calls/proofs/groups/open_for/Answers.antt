@@ -1,5 +1,5 @@
-use Rattle.std.specs.Prelude.{◌≡◌, ℕ, List, [], ◌∷◌, Result, Ok, Err, IsPermutation, nat_eq}
-use Rattle.std.proofs.Common.{rules, refl, sym, ◌∙◌}
+use Rattle.std.specs.Prelude.{◌≡◌, List, [], ◌∷◌, Result, Ok, Err, IsPermutation}
+use Rattle.std.proofs.Common.{refl, sym, ◌∙◌}
 use Rattle.std.specs.declared.cmp.PartialEq as equal
 use Rattle.std.specs.declared.hash.BuildHasher as builder
 use Rattle.std.specs.declared.hash.Hash as hash
@@ -13,7 +13,6 @@ use Rattle.iddqd_bi.specs.declared.entry.Entry.{Entry}
 use Rattle.iddqd_bi.specs.declared.entry.Entry.TheVariants.{Vacant, Occupied}
 use Rattle.iddqd_bi.specs.declared.entry.OccupiedEntryMut.{OccupiedEntryMut}
 use Rattle.iddqd_bi.specs.declared.item.BiHashItem as item
-use Rattle.example_calls.specs.declared.groups.Team.{Team}
 use Rattle.example_calls.proofs.groups.open_for.Goals as goal
 
 module _ {T : Type 0} where
