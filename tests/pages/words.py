@@ -23,8 +23,6 @@ LONG_TYPES = re.compile(
     r"(?<![.\w])(Entry|VacantEntry|OccupiedEntry|OccupiedEntryMut|RefMut|IterMut|InsertError|EntryRefusal)( (\w+|\([^()]*\))){3,}")
 # What a comment says of a word that the contracts of public functions do not cite; and of one that those of the maps do not.
 UNCITED, UNCITED_BY_MAPS = "No public clause cites it.", "No clause of a map cites it."
-# The traits by which a layer stands on any hash map. They hand on what private functions of the maps say, so their clauses may cite such words.
-LAYERS = "/src/slot_map.rt"
 # A list of a page, and the part of a page that explains labels.
 LIST = re.compile(r"^<!-- begin: (words|cited) (.*?) -->\n.*?^<!-- end -->$", re.M | re.S)
 LABELS = re.compile(r"^## Labels .*?\n(.*?)^## ", re.M | re.S)
@@ -177,10 +175,6 @@ def lists():
     """The words and labels of these crates, and the lists of the pages with the words that their rows have to have."""
     words = all_words()
     labels, cited = (dict(zip(CRATES, it)) for it in zip(*map(clauses, CRATES)))
-    private = {(file, it.name) for file, of in words.items() for it in of if UNCITED in it.meaning}
-    for crate, of in cited.items():
-        elsewhere = clauses(crate, [it for it in files(crate) if not it.endswith(LAYERS)])[1]
-        of -= {it for it in of & private if it not in elsewhere}
     # The maps hand on files of the store.
     cited = {crate: {(file if file in words else re.sub(r"^\w+", "iddqd_store", file), name) for file, name in of} for crate, of in cited.items()}
     rows, told, wanted = {}, [], needed(words, set().union(*cited.values()))
