@@ -6,7 +6,7 @@ use Rattle.std.specs.List.{insert, remove}
 use Rattle.std.proofs.lemmas.List.{append-nil, length-append, length-map, map-append, map-set, take-map, drop-map, get_or-map, set_split, take_more, take_all, get_or_append_left, get_or-append-add, take-append-le, drop-append-le, drop_all, length-set, get_or-set_same, get_or-set_other}
 use Rattle.std.proofs.lemmas.List.Elements.{All-get_or, All-nil, All-head, All-tail, All-append, All-weaker, All-cons, All-take, All-drop}
 use Rattle.std.proofs.lemmas.List.Edits.{insert-append_left, insert-append_right, remove-append_left, remove-append_right, length-remove, get_or-remove_below}
-use Rattle.iddqd_order.specs.Row.{BlockValue, entries_of, entry_lists, line, block_at, start_of, IsHeld, IsFilled, IsRow, IsMoved}
+use Rattle.iddqd_order.specs.Row.{BlockValue, RowValue, entries_of, entry_lists, line, block_at, start_of, IsHeld, IsFilled, IsRow, IsMoved, KeepsEntries}
 
 pub All-insert : {X : Type 0} (P : X → Type 0) (xs : List X) (i : ℕ) (x : X) → All P xs → P x → All P (insert xs i x)
 All-insert P xs i x all here = All-append P (take i xs) (x ∷ drop i xs) (All-take P i xs all) (All-cons P x (drop i xs) here (All-drop P i xs all))
@@ -101,6 +101,19 @@ module _ {E : Type 0} where
   line_joined (z ∷ []) b within = absurd (omega arith)
   line_joined (z ∷ (w ∷ row)) zero within = append_assoc z w (line row)
   line_joined (z ∷ (w ∷ row)) (suc b) within = ap (λ (q : List E). z ++ q) (line_joined (w ∷ row) b (omega arith))
+
+  -- a row in which a block and the next one were joined
+  pub KeepsEntries-joined : (old new : RowValue E) (at : ℕ) → at + 1 < length old.blocks → new.blocks ≡ set (remove old.blocks (at + 1)) at (block_at old.blocks at ++ block_at old.blocks (at + 1))
+      → new.spare ≡ old.spare + 1 → new.memory ≡ old.memory → new.most ≡ old.most → KeepsEntries old new
+  KeepsEntries-joined old new at within blocks spare memory most =
+      let row = old.blocks in
+      let same = length-set (remove row (at + 1)) at (block_at row at ++ block_at row (at + 1)) in
+      record {
+        entries = rw (blocks, add-one) (line_joined row at (omega (arith, within)));
+        total = omega (arith, ap length blocks, same, length-remove row (at + 1) within, spare);
+        memory = memory;
+        most = most;
+      }
 
   -- what blocks of a list hold
   pub block_read : (values : List (BlockValue E)) (b : ℕ) (value : BlockValue E) → b < length values → value ≡ get_or values b value → value.entries ≡ block_at (entry_lists values) b

@@ -212,6 +212,25 @@ impl<E> Block<E> {
         }
     }
 
+    /// Moves so many entries from the front of the next block to the end of this one.
+    pub(crate) fn pull(&mut self, next: &mut Block<E>, count: usize)
+        requires within { count ≤ length next.old.entries }
+        requires room { length self.old.entries + count ≤ self.old.room }
+        ensures all { self.new.entries ++ next.new.entries ≡ self.old.entries ++ next.old.entries }
+        ensures longer { length self.new.entries ≡ length self.old.entries + count }
+        ensures room { self.new.room ≡ self.old.room }
+        ensures next_room { next.new.room ≡ next.old.room }
+    {
+        // It takes one step to take the last entry of a list, and many to take the first.
+        next.entries.reverse();
+        let mut left = count;
+        while 0 < left {
+            self.push(next.take_last());
+            left -= 1;
+        }
+        next.entries.reverse();
+    }
+
     /// Gives the memory of an empty block back.
     pub(crate) fn free(self)
         requires { self.entries ≡ [] }

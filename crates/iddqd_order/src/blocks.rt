@@ -28,7 +28,9 @@ mod splits;
 ///
 /// A block has memory for 16 to 128 entries, as its maker says. While there is but one, its memory doubles. A block
 /// is asked for only where one is full. Below the capacity no insert needs memory: if a block is full, no block is spare, and
-/// none is to be had, entries move from block to block up to the next one that is not full.
+/// none is to be had, an entry moves to the block beside. If that is full too, entries of thin blocks move together, so that one
+/// block is spare. If the blocks have less room than one block in all, one entry of each block moves, up to the next one that is
+/// not full.
 ///
 /// A reserve of many is one allocation, which is kept, and which nothing touches as long as the allocator grants blocks. If it
 /// refuses one while all blocks are full, all entries move to the memory that is kept, as one block. When the blocks hold as
@@ -185,7 +187,8 @@ impl<E> Blocks<E> {
     }
 
     /// Inserts as `insert` does, into the memory that there is: it asks for none. If a block is full and none is spare, entries
-    /// move from block to block, up to the next one that is not full, or if all are full, to the memory that is kept.
+    /// move: one to the block beside, or those of thin blocks together, or one of each block up to the next one that is not full, or
+    /// if all are full, all of them to the memory that is kept.
     pub fn insert_within(&mut self, place: Place, entry: E) -> Place
         requires place { IsPlace self.old.blocks place }
         requires room { length (entries_in self.old) < self.old.capacity }
@@ -205,6 +208,18 @@ impl<E> Blocks<E> {
         );
         self.count += 1;
         place
+    }
+
+    /// Asks for a spare block if there is none, unless all entries are in one block. If that is refused, nothing has changed. Where the
+    /// number of entries stays, `insert_within` then needs few steps for each entry, wherever it goes.
+    #[inline]
+    pub fn make_spare(&mut self)
+        ensures blocks { self.new.blocks ≡ self.old.blocks }
+        ensures capacity { self.new.capacity ≡ self.old.capacity }
+    {
+        if self.row.spare() == 0 && 1 < self.row.len() {
+            let _ = splits::has_spare(&mut self.row, self.alloc, true);
+        }
     }
 
     /// Removes the entry at this place. Returns it, and the place of the entry that followed it, or an end. The memory stays.

@@ -8,6 +8,7 @@ use crate::block::Block;
 use crate::place::Place;
 use std::alloc::{AllocError, Global};
 use std::marker::Model;
+use std::mem::replace;
 
 mod clone;
 mod gather;
@@ -290,6 +291,26 @@ impl<E> BlockRow<E> {
         let entry = next.remove(0);
         let block = &mut self.blocks[at];
         block.push(entry);
+    }
+
+    /// Moves so many entries from the front of the next block to the end of this one.
+    pub(crate) fn pull(&mut self, at: usize, count: usize)
+        requires within { at + 1 < length self.old.blocks }
+        requires many { count < length (block_at self.old.blocks (at + 1)) }
+        requires room { length (block_at self.old.blocks at) + count ≤ self.old.memory }
+        ensures moved { IsMoved self.old.blocks self.new.blocks at (length (block_at self.old.blocks at) + count)
+            (length (block_at self.old.blocks (at + 1)) - count) }
+        ensures spare { self.new.spare ≡ self.old.spare }
+        ensures memory { self.new.memory ≡ self.old.memory }
+        ensures most { self.new.most ≡ self.old.most }
+    {
+        // Two blocks of one list are not borrowed at once.
+        let none = Block::none(*self.blocks.allocator());
+        let mut next = replace(&mut self.blocks[at + 1], none);
+        let block = &mut self.blocks[at];
+        block.pull(&mut next, count);
+        let none = replace(&mut self.blocks[at + 1], next);
+        none.free();
     }
 
     /// Moves the entries of the next block to the end of this one. The next block becomes spare.

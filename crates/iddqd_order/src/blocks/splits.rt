@@ -3,6 +3,7 @@ ghost use Rattle.std.specs.Prelude.{◌≡◌, ◌+◌, ◌*◌, ◌^◌, ◌<�
 ghost use Rattle.std.specs.List.{insert};
 ghost use Rattle.iddqd_order.specs.Row.{line, block_at, position, IsPlace, IsWithin, HasEntry, HasRoom, KeepsEntries, room_of};
 
+use super::joins::spare_one;
 use super::shifts::shift;
 use crate::block::Block;
 use crate::place::Place;
@@ -50,7 +51,7 @@ fn split<E>(row: &mut BlockRow<E>, place: Place) -> Place
 }
 
 /// Makes a spare block if there is none and memory may be asked for. Returns whether there is one then.
-fn has_spare<E>(row: &mut BlockRow<E>, alloc: Global, asks: bool) -> bool
+pub(super) fn has_spare<E>(row: &mut BlockRow<E>, alloc: Global, asks: bool) -> bool
     ensures blocks { row.new.blocks ≡ row.old.blocks }
     ensures memory { row.new.memory ≡ row.old.memory }
     ensures most { row.new.most ≡ row.old.most }
@@ -84,7 +85,7 @@ fn release<E>(row: &BlockRow<E>, kept: &mut Block<E>, capacity: usize)
 }
 
 /// Returns the number of entries before this place.
-fn position_of<E>(row: &BlockRow<E>, place: Place) -> usize
+pub(super) fn position_of<E>(row: &BlockRow<E>, place: Place) -> usize
     requires place { IsWithin row.now.blocks place }
     requires countable { length (line row.now.blocks) < 2 ^ 64 }
     ensures { result ≡ position row.now.blocks place }
@@ -94,6 +95,31 @@ fn position_of<E>(row: &BlockRow<E>, place: Place) -> usize
         before += row.len_at(b);
     }
     before + place.offset
+}
+
+/// Returns the place with so many entries before it, in a block or at its end.
+pub(super) fn place_of<E>(row: &BlockRow<E>, before: usize) -> Place
+    requires some { 0 < length row.now.blocks }
+    requires within { before ≤ length (line row.now.blocks) }
+    ensures within { IsWithin row.now.blocks result }
+    ensures before { position row.now.blocks result ≡ before }
+{
+    let last = row.len() - 1;
+    let mut place = Place {
+        block: 0,
+        offset: before,
+    };
+    while place.block < last {
+        let len = row.len_at(place.block);
+        if place.offset <= len {
+            return place;
+        }
+        place = Place {
+            block: place.block + 1,
+            offset: place.offset - len,
+        };
+    }
+    place
 }
 
 /// Moves all entries to the block that is kept, which has memory for one more. Returns where the place is then.
@@ -116,9 +142,21 @@ fn gather<E>(row: &mut BlockRow<E>, kept: &mut Block<E>, alloc: Global, place: P
     Place { block: 0, offset }
 }
 
+/// Returns whether the block that `shift` tries first is not full.
+fn has_room_beside<E>(row: &BlockRow<E>, at: usize) -> bool
+    requires { at < length row.now.blocks }
+{
+    let count = row.len();
+    if at + 1 < count {
+        return row.len_at(at + 1) < row.memory();
+    }
+    0 < at && row.len_at(at - 1) < row.memory()
+}
+
 /// Makes room in the block of this place, which is full: by a split, with a spare block or, if memory may be asked for, a new
-/// one. If none is to be had, entries move to a block that is not full, or if all are, to the one that is kept. Returns where
-/// the place is then.
+/// one. If none is to be had, an entry moves to the block beside. If that is full too, a split takes the block that becomes spare
+/// when thin blocks move together. If the blocks have less room than that, entries move up to a block that is not full, or if all
+/// are, to the one that is kept. Returns where the place is then.
 #[cold]
 #[inline(never)]
 fn open<E>(
@@ -144,6 +182,16 @@ fn open<E>(
     if has_spare(row, alloc, asks) {
         release(row, kept, capacity);
         return split(row, place);
+    }
+    let mut place = place;
+    if !has_room_beside(row, place.block) {
+        place = spare_one(row, place);
+        if row.len_at(place.block) < row.memory() {
+            return place;
+        }
+        if row.spare() != 0 {
+            return split(row, place);
+        }
     }
     match shift(row, place) {
         Some(place) => place,
