@@ -10,7 +10,7 @@ use iddqd_store::{SlotMap, TryReserveError};
 use std::alloc::Global;
 
 /// How many entries a block of the order has at most.
-const BLOCK: usize = 128;
+const BLOCK: usize = 64;
 
 impl<M: SlotMap> Sorted<M>
 where
