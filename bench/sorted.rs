@@ -196,6 +196,16 @@ fn touched_last<const N: usize>(items: usize) -> Workload<N> {
     load
 }
 
+/// One map whose items came in the order of their sort keys, as a cache is filled, and rows that give them sort keys, each of which is
+/// higher than all before it.
+fn touched_again<const N: usize>(items: usize) -> Workload<N> {
+    let mut load = touched_last(items);
+    for (at, row) in load.rows.iter_mut().enumerate() {
+        row.value = at as u64;
+    }
+    load
+}
+
 /// One map of groups, and rows with the sort keys that are asked for. The operations are counted by the items that are met.
 fn grouped<const N: usize>(items: usize) -> Workload<N> {
     let mut load = grown::<N>(items - items % GROUP);
@@ -232,6 +242,7 @@ macro_rules! operations {
                 operation!(Each "removal", |items| sorted(reordered(items), items), sorted_remove),
                 operation!(Each "touch, drawn", touched, sorted_touch),
                 operation!(Each "touch, to the end", touched_last, sorted_touch),
+                operation!(Each "touch, filled in order", touched_again, sorted_touch),
                 operation!(Each "pop_to, all", |items| sorted(reordered(items), items), sorted_pop_to),
                 operation!(All "group of 10 items", grouped, sorted_group),
             ]
