@@ -9,7 +9,7 @@ use crate::workload::{
     asked_again, exchanged, fresh, grown, missed, reordered, repeated, rows, shuffled,
 };
 use std::cmp::Reverse;
-use std::collections::BTreeMap;
+use std::collections::{BTreeMap, HashMap};
 use std::collections::btree_map::Entry;
 use std::hint::black_box;
 
@@ -112,6 +112,11 @@ fn remove_insert(load: &Workload<1>, whole: bool) -> u64 {
     }))
 }
 
+/// std has no call that puts an item with another key in the place of one.
+fn rekey(load: &Workload<1>, whole: bool) -> u64 {
+    remove_insert(load, whole)
+}
+
 fn pop_first(load: &Workload<1>, whole: bool) -> u64 {
     each_map(load, |rows, _| {
         let mut map = filled(rows);
@@ -183,6 +188,19 @@ fn descending(mut load: Workload<1>) -> Workload<1> {
     load
 }
 
+/// One map that was filled in the order of its keys, and pairs of rows: one that is in the map by then, and one with a higher key
+/// than all.
+fn brought_up(items: usize) -> Workload<1> {
+    let mut load = exchanged(items);
+    let new = load.asked.chunks(2).map(|two| two[1].keys[0]);
+    let keys = load.rows.iter().map(|row| row.keys[0]).chain(new);
+    let numbers: HashMap<u64, u64> = keys.zip(0..).collect();
+    for row in load.rows.iter_mut().chain(&mut load.asked) {
+        row.keys[0] = numbers[&row.keys[0]];
+    }
+    load
+}
+
 /// One map, and how often it is cloned.
 fn cloned(items: usize) -> Workload<1> {
     let number = (20_000 / items).max(1);
@@ -237,6 +255,7 @@ operations! {
     Each "insert, descending": |items| descending(fresh(items)), insert;
     Each "removal": reordered, remove;
     Each "removal and insert": exchanged, remove_insert;
+    Each "rekey to the end": brought_up, rekey;
     All "pop_first, all": fresh, pop_first;
     All "iter": repeated, iter;
     All "iter, filled ascending": |items| ascending(repeated(items)), iter;

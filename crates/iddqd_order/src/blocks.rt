@@ -1,5 +1,5 @@
 //! Entries in order, and their places.
-ghost use Rattle.std.specs.Prelude.{◌≡◌, ℕ, ◌+◌, ◌*◌, ◌-◌, ◌^◌, ◌<◌, ◌≤◌, [], length, slice_set, slice_index_or, slice_range, All, IsOk, IfOk, IfErr, OnOk, OnErr};
+ghost use Rattle.std.specs.Prelude.{◌≡◌, ℕ, ◌+◌, ◌*◌, ◌-◌, ◌^◌, ◌<◌, ◌≤◌, [], length, slice_set, slice_index_or, slice_range, All, IsOk, IfOk, IfErr, OnOk, OnErr, IfSome, IfNone};
 ghost use Rattle.std.specs.Borrow.{sem};
 ghost use Rattle.std.specs.List.{insert, remove};
 ghost use Rattle.iddqd_order.specs.Row.{line, entries_in, position, with_entry, IsPlace, HasEntry};
@@ -154,17 +154,22 @@ impl<E> Blocks<E> {
     }
 
     /// Returns the entry at this place, or `None` if none stands there.
-    pub fn entry_if(&self, place: Place) -> Option<&E> {
+    pub fn entry_if(&self, place: Place) -> Option<&E>
+        ensures entry { IfSome result (λ _. HasEntry self.now.blocks place) }
+        ensures value { IfSome result (λ e. (d : E) → e.now ≡ slice_index_or (entries_in self.now) (position self.now.blocks place) d) }
+        ensures none { IfNone result (HasEntry self.now.blocks place → ⊥) }
+    {
         if place.block < self.row.len() && place.offset < self.row.len_at(place.block) {
-            return Some(self.row.entry_in(place));
+            return Some(self.entry_in(place));
         }
         None
     }
 
     /// Inserts an entry before this place, and returns its place. It has to fit.
     ///
-    /// If a block is full and none is spare, it asks for one. If that is refused, entries move, as in `insert_within`. Otherwise
-    /// it asks for no memory.
+    /// If a block is full and none is spare, it asks for one. If that is refused, entries move, as in `insert_within`. As soon as there is
+    /// more than one block, it also sees to it that one is spare, unless that memory is refused: so `insert_within`, which asks
+    /// for no memory, moves few entries while the number of entries stays. Otherwise it asks for no memory.
     pub fn insert(&mut self, place: Place, entry: E) -> Place
         requires place { IsPlace self.old.blocks place }
         requires room { length (entries_in self.old) < self.old.capacity }
@@ -183,6 +188,7 @@ impl<E> Blocks<E> {
             entry,
         );
         self.count += 1;
+        splits::keep_spare(&mut self.row, self.alloc);
         place
     }
 
@@ -208,18 +214,6 @@ impl<E> Blocks<E> {
         );
         self.count += 1;
         place
-    }
-
-    /// Asks for a spare block if there is none, unless all entries are in one block. If that is refused, nothing has changed. Where the
-    /// number of entries stays, `insert_within` then needs few steps for each entry, wherever it goes.
-    #[inline]
-    pub fn make_spare(&mut self)
-        ensures blocks { self.new.blocks ≡ self.old.blocks }
-        ensures capacity { self.new.capacity ≡ self.old.capacity }
-    {
-        if self.row.spare() == 0 && 1 < self.row.len() {
-            let _ = splits::has_spare(&mut self.row, self.alloc, true);
-        }
     }
 
     /// Removes the entry at this place. Returns it, and the place of the entry that followed it, or an end. The memory stays.

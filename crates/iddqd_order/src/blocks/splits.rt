@@ -51,7 +51,7 @@ fn split<E>(row: &mut BlockRow<E>, place: Place) -> Place
 }
 
 /// Makes a spare block if there is none and memory may be asked for. Returns whether there is one then.
-pub(super) fn has_spare<E>(row: &mut BlockRow<E>, alloc: Global, asks: bool) -> bool
+fn has_spare<E>(row: &mut BlockRow<E>, alloc: Global, asks: bool) -> bool
     ensures blocks { row.new.blocks ≡ row.old.blocks }
     ensures memory { row.new.memory ≡ row.old.memory }
     ensures most { row.new.most ≡ row.old.most }
@@ -69,6 +69,18 @@ pub(super) fn has_spare<E>(row: &mut BlockRow<E>, alloc: Global, asks: bool) -> 
     match row.make(alloc) {
         Ok(()) => true,
         Err(_) => false,
+    }
+}
+
+/// Asks for a spare block if there is none, unless all entries are in one block. If that is refused, nothing has changed.
+#[inline(always)]
+pub(super) fn keep_spare<E>(row: &mut BlockRow<E>, alloc: Global)
+    ensures blocks { row.new.blocks ≡ row.old.blocks }
+    ensures memory { row.new.memory ≡ row.old.memory }
+    ensures no_less { row.old.spare ≤ row.new.spare }
+{
+    if row.spare() == 0 && 1 < row.len() {
+        let _ = has_spare(row, alloc, true);
     }
 }
 

@@ -160,8 +160,6 @@ where
         let sort_key = item.sort_key();
         let slot = self.map.insert_into(item, at, probed);
         let _ = self.order.insert(place, Entry { sort_key, slot });
-        // So a touch, which asks for no memory, moves few entries.
-        self.order.make_spare();
         slot
     }
 }

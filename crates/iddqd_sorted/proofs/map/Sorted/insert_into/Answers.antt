@@ -31,7 +31,7 @@ invariant_of-self g c =
     let gap = rw (← c.self.view_is) at c.requires.gap.1 in
     let e : Entry g.row.M-Item-SortKey.Denot = record { sort_key = c.sort_key-sort_key.result; slot = c.insert_into-slot.result } in
     let more : live_count new ≡ live_count slots + 1 = omega (arith, length_permutation _ _ put.puts_at.items, length-contents slots, length-contents new) in
-    rw (c.make_spare.ensures.blocks, c.insert.ensures.entries) (IsListed-inserted (total g.M.Item.Sortable.sort_key g.met.M.Item.SortKey.Ord.total g.M.SlotMap.first_key g.met.M.FirstKey.Ord.total) g.M.Item.Sortable.sort_key (g.M.SlotMap.shown c.self.inside.map).slots (line c.self.inside.order.blocks) c.self.invariant new e (position c.self.inside.order.blocks c.args.place) c.args.item put.was_free put.updates more (sym c.sort_key-sort_key.ensures) gap)
+    rw (c.insert.ensures.entries) (IsListed-inserted (total g.M.Item.Sortable.sort_key g.met.M.Item.SortKey.Ord.total g.M.SlotMap.first_key g.met.M.FirstKey.Ord.total) g.M.Item.Sortable.sort_key (g.M.SlotMap.shown c.self.inside.map).slots (line c.self.inside.order.blocks) c.self.invariant new e (position c.self.inside.order.blocks c.args.place) c.args.item put.was_free put.updates more (sym c.sort_key-sort_key.ensures) gap)
 
 pub returns-clause-inserted : goal.returns-clause-inserted
 returns-clause-inserted g c =
@@ -39,7 +39,7 @@ returns-clause-inserted g c =
     let place = rw (← c.self.view_is) at c.requires.gap.0 in
     let e : Entry g.row.M-Item-SortKey.Denot = record { sort_key = c.sort_key-sort_key.result; slot = c.insert_into-slot.result } in
     let kept = items-inserted (total g.M.Item.Sortable.sort_key g.met.M.Item.SortKey.Ord.total g.M.SlotMap.first_key g.met.M.FirstKey.Ord.total) g.M.Item.Sortable.sort_key (g.M.SlotMap.shown c.self.inside.map).slots (line c.self.inside.order.blocks) c.self.invariant (g.M.SlotMap.shown c.insert_into-slot.new.self).slots e (position c.self.inside.order.blocks c.args.place) c.args.item put.was_free put.updates (position-within c.self.inside.order.blocks c.args.place place) in
-    rw (c.make_spare.ensures.blocks, c.insert.ensures.entries, ← c.self.view_is) kept
+    rw (c.insert.ensures.entries, ← c.self.view_is) kept
 
 pub returns-clause-fits : goal.returns-clause-fits
 returns-clause-fits g c =
@@ -53,7 +53,7 @@ returns-clause-fits g c =
     let le = position-within c.self.inside.order.blocks c.args.place place in
     let e : Entry g.row.M-Item-SortKey.Denot = record { sort_key = c.sort_key-sort_key.result; slot = c.insert_into-slot.result } in
     let kept = items-inserted (total g.M.Item.Sortable.sort_key g.met.M.Item.SortKey.Ord.total g.M.SlotMap.first_key g.met.M.FirstKey.Ord.total) g.M.Item.Sortable.sort_key (g.M.SlotMap.shown c.self.inside.map).slots (line c.self.inside.order.blocks) c.self.invariant (g.M.SlotMap.shown c.insert_into-slot.new.self).slots e i c.args.item put.was_free put.updates le in
-    rw (c.make_spare.ensures.blocks, c.insert.ensures.entries) (omega (arith, ap length kept, length-insert xs i c.args.item (omega (arith, entries, le)), entries, counted, room, put.puts_at.same_room, c.insert.ensures.capacity, c.make_spare.ensures.capacity))
+    rw (c.insert.ensures.entries) (omega (arith, ap length kept, length-insert xs i c.args.item (omega (arith, entries, le)), entries, counted, room, put.puts_at.same_room, c.insert.ensures.capacity))
 
 pub returns-clause-probed : goal.returns-clause-probed
 returns-clause-probed g c = rw (← c.self.view_is) c.insert_into-slot.ensures.costs
