@@ -60,8 +60,8 @@ module _ {T : Type 0} where
     pub answered : answers item stored
     pub lists : new ≡ with_item by (filter (λ y. not (test y)) old) (put item stored)
 
-  -- For each function `write` that makes of an item that passes the test what the data that `answers` gives make of it, `new` lists
-  -- the items that fail the test, and `write` of the one that passes, if there is one, at the place of its sort key.
+  -- `new` lists the items that fail the test and, at the place of its sort key, `write` of the one that passes, if there is one. `write` is
+  -- each function that stores in such an item what is answered at it.
   -- Example: For the test whether the first key is 2, and the answer 7, where the data are the sort key, `new` is (1, 5), (2, 7).
   abbrev pub MapsOne : {D : Type 0} → (T → D → Type 0) → (T → D → T) → (T → T → Ordering) → (T → Bool) → List T → List T → Type 0
   MapsOne {D} answers put by test old new =
