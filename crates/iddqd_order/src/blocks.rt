@@ -26,11 +26,11 @@ mod splits;
 
 /// Entries in order. Contracts see the blocks in which they stand; the list of the entries is their `line`.
 ///
-/// A block has memory for 16 to 128 entries, as its maker says. While there is but one, its memory doubles. A block
-/// is asked for only where one is full. Below the capacity no insert needs memory: if a block is full, no block is spare, and
-/// none is to be had, an entry moves to the block beside. If that is full too, entries of thin blocks move together, so that one
-/// block is spare. If the blocks have less room than one block in all, one entry of each block moves, up to the next one that is
-/// not full.
+/// A block has memory for 16 to 128 entries, as its maker says. While there is but one, its memory doubles. An insert asks for a
+/// block where one is full, and as soon as there are two, for one that stays spare. Below the capacity no insert needs memory: if
+/// a block is full, no block is spare, and none is to be had, an entry moves to the block beside. If that is full too, entries of
+/// thin blocks move together, so that one block is spare. If the blocks have less room than one block in all, one entry of each
+/// block moves, up to the next one that is not full.
 ///
 /// A reserve of many is one allocation, which is kept, and which nothing touches as long as the allocator grants blocks. If it
 /// refuses one while all blocks are full, all entries move to the memory that is kept, as one block. When the blocks hold as
