@@ -9,8 +9,8 @@ use crate::workload::{
     asked_again, exchanged, fresh, grown, missed, reordered, repeated, rows, shuffled,
 };
 use std::cmp::Reverse;
-use std::collections::{BTreeMap, HashMap};
 use std::collections::btree_map::Entry;
+use std::collections::{BTreeMap, HashMap};
 use std::hint::black_box;
 
 /// The numbers of items.
@@ -112,7 +112,7 @@ fn remove_insert(load: &Workload<1>, whole: bool) -> u64 {
     }))
 }
 
-/// std has no call that puts an item with another key in the place of one.
+/// A `BTreeMap` has no such call, so this removes the one item and inserts the other.
 fn rekey(load: &Workload<1>, whole: bool) -> u64 {
     remove_insert(load, whole)
 }
@@ -188,9 +188,9 @@ fn descending(mut load: Workload<1>) -> Workload<1> {
     load
 }
 
-/// One map that was filled in the order of its keys, and pairs of rows: one that is in the map by then, and one with a higher key
-/// than all.
-fn brought_up(items: usize) -> Workload<1> {
+/// One map that was filled in the order of its keys, and pairs of rows: one that is in the map by then, and one with a key that is
+/// higher than all before it.
+fn rekeyed_last(items: usize) -> Workload<1> {
     let mut load = exchanged(items);
     let new = load.asked.chunks(2).map(|two| two[1].keys[0]);
     let keys = load.rows.iter().map(|row| row.keys[0]).chain(new);
@@ -255,7 +255,7 @@ operations! {
     Each "insert, descending": |items| descending(fresh(items)), insert;
     Each "removal": reordered, remove;
     Each "removal and insert": exchanged, remove_insert;
-    Each "rekey to the end": brought_up, rekey;
+    Each "rekey to the end": rekeyed_last, rekey;
     All "pop_first, all": fresh, pop_first;
     All "iter": repeated, iter;
     All "iter, filled ascending": |items| ascending(repeated(items)), iter;
