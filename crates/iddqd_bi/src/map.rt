@@ -49,7 +49,7 @@ pub struct BiHashMap<T: BiHashItem, S: BuildHasher = DefaultHashBuilder> {
     second: IndexTable,
     hash_builder: S,
     // It names the types of the keys. Without it no function that owns a map whose keys are references has a proof.
-    keys: PhantomData<(T::K1, T::K2)>,
+    key_types: PhantomData<(T::K1, T::K2)>,
 }
 
 impl<T: BiHashItem, S: BuildHasher> Model for BiHashMap<T, S> {

@@ -49,7 +49,7 @@ pub struct IdHashMap<T: IdHashItem, S: BuildHasher = DefaultHashBuilder> {
     first: IndexTable,
     hash_builder: S,
     // It names the types of the keys. Without it no function that owns a map whose keys are references has a proof.
-    keys: PhantomData<T::Key>,
+    key_types: PhantomData<T::Key>,
 }
 
 impl<T: IdHashItem, S: BuildHasher> Model for IdHashMap<T, S> {

@@ -48,7 +48,7 @@ pub use collect::ClonesKeys;
 pub struct IdOrdMap<T: IdOrdItem> {
     items: Blocks<T>,
     // It names the type of the keys. Without it no function that owns a map whose keys are references has a proof.
-    keys: PhantomData<T::Key>,
+    key_types: PhantomData<T::Key>,
 }
 
 impl<T: IdOrdItem> Model for IdOrdMap<T> {

@@ -4,6 +4,7 @@ ghost use Rattle.std.specs.Prelude.{◌≡◌, Bool, true};
 use crate::equivalent::Equivalent;
 use std::hash::Hash;
 
+mod numbers;
 mod option;
 mod pair;
 mod slices;

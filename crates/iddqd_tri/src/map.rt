@@ -52,7 +52,7 @@ pub struct TriHashMap<T: TriHashItem, S: BuildHasher = DefaultHashBuilder> {
     third: IndexTable,
     hash_builder: S,
     // It names the types of the keys. Without it no function that owns a map whose keys are references has a proof.
-    keys: PhantomData<(T::K1, T::K2, T::K3)>,
+    key_types: PhantomData<(T::K1, T::K2, T::K3)>,
 }
 
 impl<T: TriHashItem, S: BuildHasher> Model for TriHashMap<T, S> {

@@ -49,7 +49,7 @@ impl<T: BiHashItem, S: BuildHasher> BiHashMap<T, S> {
             first: IndexTable::new(alloc),
             second: IndexTable::new(alloc),
             hash_builder,
-            keys: PhantomData,
+            key_types: PhantomData,
         }
     }
 
@@ -99,7 +99,7 @@ impl<T: BiHashItem, S: BuildHasher> BiHashMap<T, S> {
             first,
             second,
             hash_builder,
-            keys: PhantomData,
+            key_types: PhantomData,
         })
     }
 }

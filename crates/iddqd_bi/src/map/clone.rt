@@ -58,7 +58,7 @@ impl<T: BiHashItem + Clone, S: BuildHasher + Clone> BiHashMap<T, S> {
             first,
             second,
             hash_builder,
-            keys: PhantomData,
+            key_types: PhantomData,
         };
         // This call gives the prover the fact that the items fit, for the clause `fits`.
         let _ = copy.capacity();

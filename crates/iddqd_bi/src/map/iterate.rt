@@ -49,7 +49,7 @@ impl<T: BiHashItem + Drop, S: BuildHasher + Drop> IntoIterator for BiHashMap<T, 
             first: _,
             second: _,
             hash_builder: _,
-            keys: _,
+            key_types: _,
         } = self;
         items.into_values()
     }

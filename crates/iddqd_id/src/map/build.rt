@@ -50,7 +50,7 @@ impl<T: IdHashItem, S: BuildHasher> IdHashMap<T, S> {
             items: ItemSet::new(alloc),
             first: IndexTable::new(alloc),
             hash_builder,
-            keys: PhantomData,
+            key_types: PhantomData,
         }
     }
 
@@ -98,7 +98,7 @@ impl<T: IdHashItem, S: BuildHasher> IdHashMap<T, S> {
             items: ItemSet::with_capacity(alloc, items)?,
             first,
             hash_builder,
-            keys: PhantomData,
+            key_types: PhantomData,
         })
     }
 }

@@ -56,7 +56,7 @@ impl<T: IdHashItem + Clone, S: BuildHasher + Clone> IdHashMap<T, S> {
             items: self.items.clone()?,
             first,
             hash_builder,
-            keys: PhantomData,
+            key_types: PhantomData,
         };
         // This call gives the prover the fact that the items fit, for the clause `fits`.
         let _ = copy.capacity();

@@ -50,7 +50,7 @@ impl<T: IdHashItem + Drop, S: BuildHasher + Drop> IntoIterator for IdHashMap<T, 
             items,
             first: _,
             hash_builder: _,
-            keys: _,
+            key_types: _,
         } = self;
         items.into_values()
     }

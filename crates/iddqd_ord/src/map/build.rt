@@ -20,7 +20,7 @@ impl<T: IdOrdItem> IdOrdMap<T> {
     {
         IdOrdMap {
             items: Blocks::new(alloc, BLOCK),
-            keys: PhantomData,
+            key_types: PhantomData,
         }
     }
 
@@ -43,7 +43,7 @@ impl<T: IdOrdItem> IdOrdMap<T> {
     {
         Ok(IdOrdMap {
             items: Blocks::with_capacity(alloc, BLOCK, count)?,
-            keys: PhantomData,
+            key_types: PhantomData,
         })
     }
 }

@@ -23,7 +23,7 @@ impl<T: IdOrdItem + Clone> IdOrdMap<T> {
     {
         Ok(IdOrdMap {
             items: self.items.clone()?,
-            keys: PhantomData,
+            key_types: PhantomData,
         })
     }
 }

@@ -5,6 +5,7 @@ ghost use Rattle.iddqd_sorted.specs.Items.{items};
 
 use super::Sorted;
 use crate::item::Sortable;
+use iddqd_bi::DefaultHashBuilder;
 use iddqd_order::Blocks;
 use iddqd_store::{SlotMap, TryReserveError};
 use std::alloc::Global;
@@ -12,31 +13,21 @@ use std::alloc::Global;
 /// How many entries a block of the order has at most.
 const BLOCK: usize = 64;
 
-impl<M: SlotMap> Sorted<M>
+impl<M: SlotMap<Builder = DefaultHashBuilder>> Sorted<M>
 where
     M::Item: Sortable,
     M::FirstKey: Ord,
-    M::Builder: Default,
 {
-    /// Makes an empty map of capacity 0 with the default value of the builder's type. The call allocates no memory.
+    /// Makes an empty map of capacity 0 with the default builder. The call allocates no memory.
     pub fn new(alloc: Global) -> Self
         ensures empty { items result ≡ [] }
         ensures capacity { result.capacity ≡ 0 }
-        ensures builder { M.Builder.is_default result.builder }
+        ensures builder { ⟦<DefaultHashBuilder as Default>⟧.is_default result.builder }
     {
-        Sorted::with_hasher(alloc, M::Builder::default())
+        Sorted::with_hasher(alloc, DefaultHashBuilder::default())
     }
 
-    /// Makes an empty map of capacity 0, as `new` does.
-    pub fn default(alloc: Global) -> Self
-        ensures empty { items result ≡ [] }
-        ensures capacity { result.capacity ≡ 0 }
-        ensures builder { M.Builder.is_default result.builder }
-    {
-        Sorted::new(alloc)
-    }
-
-    /// Makes an empty map with the default value of the builder's type, in which exactly `count` items fit.
+    /// Makes an empty map with the default builder, in which exactly `count` items fit.
     ///
     /// The call allocates the slots, each table, and the order. It fails if an allocation fails, or if the number of items is too
     /// large for memory. For 0 items it allocates nothing, and succeeds.
@@ -45,11 +36,11 @@ where
         M: Drop,
         ensures empty { IfOk result (λ map. items map ≡ []) }
         ensures capacity { IfOk result (λ map. map.capacity ≡ count) }
-        ensures builder { IfOk result (λ map. M.Builder.is_default map.builder) }
+        ensures builder { IfOk result (λ map. ⟦<DefaultHashBuilder as Default>⟧.is_default map.builder) }
         ensures never_refused { count ≡ 0 → IsOk result }
         ensures past { most_room < count → IsErr result }
     {
-        Sorted::with_capacity_and_hasher(alloc, count, M::Builder::default())
+        Sorted::with_capacity_and_hasher(alloc, count, DefaultHashBuilder::default())
     }
 }
 
@@ -68,6 +59,17 @@ where
             map: M::empty(alloc, hash_builder),
             order: Blocks::new(alloc, BLOCK),
         }
+    }
+
+    /// Makes an empty map of capacity 0 with the default value of the builder's type. The call allocates no memory.
+    pub fn default(alloc: Global) -> Self
+    where
+        M::Builder: Default,
+        ensures empty { items result ≡ [] }
+        ensures capacity { result.capacity ≡ 0 }
+        ensures builder { M.Builder.is_default result.builder }
+    {
+        Sorted::with_hasher(alloc, M::Builder::default())
     }
 
     /// Makes an empty map with this builder of hashers, in which exactly `count` items fit.

@@ -37,7 +37,7 @@ where
             (fold (overwritten M.ranks (by_sort M.Item.sort_key M.Item.SortKey.cmp M.first_key M.FirstKey.cmp)) [] xs) e.value ≡ [])) }
         ensures builder { IfOk result (λ map. M.Builder.is_default map.builder) }
     {
-        let mut map = Sorted::new(alloc);
+        let mut map = Sorted::default(alloc);
         map.extend(iter)?;
         Ok(map)
     }
@@ -65,7 +65,7 @@ where
             (M.rejected_item e.rejected) (M.rejected_flags e.rejected)) }
         ensures builder { IfOk result (λ map. M.Builder.is_default map.builder) }
     {
-        let mut map = Sorted::new(alloc);
+        let mut map = Sorted::default(alloc);
         map.extend_unique(iter)?;
         Ok(map)
     }
@@ -118,6 +118,6 @@ where
     ghost is_made_with = { λ m. (items m ≡ []) × (m.capacity ≡ 0) × M.Builder.is_default m.builder };
 
     fn made_with(alloc: Global) -> Self {
-        Sorted::new(alloc)
+        Sorted::default(alloc)
     }
 }

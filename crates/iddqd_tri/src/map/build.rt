@@ -52,7 +52,7 @@ impl<T: TriHashItem, S: BuildHasher> TriHashMap<T, S> {
             second: IndexTable::new(alloc),
             third: IndexTable::new(alloc),
             hash_builder,
-            keys: PhantomData,
+            key_types: PhantomData,
         }
     }
 
@@ -104,7 +104,7 @@ impl<T: TriHashItem, S: BuildHasher> TriHashMap<T, S> {
             second,
             third,
             hash_builder,
-            keys: PhantomData,
+            key_types: PhantomData,
         })
     }
 }

@@ -64,7 +64,7 @@ impl<T: TriHashItem + Clone, S: BuildHasher + Clone> TriHashMap<T, S> {
             second,
             third,
             hash_builder,
-            keys: PhantomData,
+            key_types: PhantomData,
         };
         // This call gives the prover the fact that the items fit, for the clause `fits`.
         let _ = copy.capacity();

@@ -52,7 +52,7 @@ impl<T: TriHashItem + Drop, S: BuildHasher + Drop> IntoIterator for TriHashMap<T
             second: _,
             third: _,
             hash_builder: _,
-            keys: _,
+            key_types: _,
         } = self;
         items.into_values()
     }
