@@ -1,0 +1,6 @@
+// Plain Rust, in no proved text: it lends the blocks.
+impl<E> BlockRow<E> {
+    pub(crate) fn blocks_mut(&mut self) -> &mut [Block<E>] {
+        &mut self.blocks
+    }
+}
