@@ -11,9 +11,10 @@ mod slices;
 mod texts;
 mod triple;
 
-/// What a lookup takes by value: a reference to a key or to any `Equivalent` of it, a borrowed text or slice, a tuple of
-/// two or three queries for one of keys, an `Option` of a query for one of a key, or a made key. So `get1(&7)`,
-/// `get1(&name)`, `get1("main")`, `get2((section, &offset))`, `get1(Some("main"))` and `get2(Made { key })` all work.
+/// What a lookup takes by value: a reference to a key or to any `Equivalent` of it, a number, a `char` or a `bool` by
+/// itself, a borrowed text or slice, a tuple of two or three queries for one of keys, an `Option` of a query for one of
+/// a key, or a made key. So `get1(&name)`, `get1(7)`, `get1("main")`, `get2((section, offset))`, `get1(Some("main"))`
+/// and `get2(Made { key })` all work.
 ///
 /// For a query type of your own implement `Equivalent`, and pass a reference to its value.
 pub trait Query<K: Eq + Hash>: Copy + Hash {
