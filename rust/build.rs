@@ -1,4 +1,5 @@
-//! Writes the plain Rust of the proved maps into the build's folder.
+//! Makes the plain Rust of the proved maps in the build's folder.
+use std::io::ErrorKind;
 use std::path::{Path, PathBuf};
 use std::{env, fs, process};
 
@@ -6,71 +7,90 @@ mod added;
 mod erase;
 mod examples;
 
-const CRATES: [&str; 7] = ["iddqd_store", "iddqd_order", "iddqd_id", "iddqd_bi", "iddqd_tri", "iddqd_ord", "iddqd_sorted"];
+use erase::CRATES;
+
+/// What stands before the module of each crate. The calls of clippy.toml are refused there.
+const MODULE: &str = "#[allow(dead_code, unused_imports, unused_variables, clippy::all)]\n#[deny(clippy::disallowed_methods)]\n";
 
 fn stop(message: String) -> ! {
     eprintln!("error: {message}");
     process::exit(1)
 }
 
-fn files(folder: &Path, out: &mut Vec<PathBuf>) {
-    let entries = fs::read_dir(folder).unwrap_or_else(|e| stop(format!("{}: {e}", folder.display())));
-    for entry in entries {
-        let path = entry.unwrap_or_else(|e| stop(format!("{}: {e}", folder.display()))).path();
+/// A file of Rattle: its crate, its path from here, its path in the crate, and its text.
+struct Source {
+    own: &'static str,
+    path: PathBuf,
+    name: PathBuf,
+    text: String,
+}
+
+/// Collects the files of Rattle in a folder.
+fn files(folder: &Path, out: &mut Vec<PathBuf>) -> std::io::Result<()> {
+    let mut paths = fs::read_dir(folder)?.map(|it| Ok(it?.path())).collect::<std::io::Result<Vec<_>>>()?;
+    paths.sort();
+    for path in paths {
         if path.is_dir() {
-            files(&path, out);
+            files(&path, out)?;
         } else if path.extension().is_some_and(|it| it == "rt") {
             out.push(path);
         }
     }
+    Ok(())
 }
 
-/// The path of a file in its crate.
-fn path_in(path: &Path, own: &str) -> String {
+fn sources(own: &'static str) -> Vec<Source> {
     let base = PathBuf::from("crates").join(own).join("src");
-    path.strip_prefix(base).expect("it lies there").to_string_lossy().into_owned()
+    let mut paths = Vec::new();
+    if let Err(e) = files(&base, &mut paths) {
+        stop(format!("{}: {e}. The proved text of the maps has to stand there: build in a whole clone of the repository", base.display()));
+    }
+    let read = |path: PathBuf| match fs::read_to_string(&path) {
+        Ok(text) => Source { own, name: path.strip_prefix(&base).expect("the file lies there").to_path_buf(), path, text },
+        Err(e) if e.kind() == ErrorKind::InvalidData => stop(format!("{}: the file is not text in UTF-8: write it in UTF-8", path.display())),
+        Err(e) => stop(format!("{}: {e}: the file has to be readable", path.display())),
+    };
+    paths.into_iter().map(read).collect()
+}
+
+fn write(path: &Path, text: &str) {
+    let folder = path.parent().expect("a file has a folder");
+    if let Err(e) = fs::create_dir_all(folder).and_then(|()| fs::write(path, text)) {
+        stop(format!("{}: {e}. The build writes there: set CARGO_TARGET_DIR to a folder that can be written", path.display()));
+    }
 }
 
 fn main() {
     println!("cargo::rerun-if-changed=crates");
     println!("cargo::rerun-if-changed=rust");
-    let out = PathBuf::from(env::var("OUT_DIR").expect("cargo names the folder"));
-    let mut names = erase::Names::default();
-    let mut texts = Vec::new();
-    for own in CRATES {
-        let base = PathBuf::from("crates").join(own).join("src");
-        let mut paths = Vec::new();
-        files(&base, &mut paths);
-        paths.sort();
-        for path in paths {
-            let text = fs::read_to_string(&path).unwrap_or_else(|e| stop(format!("{}: {e}", path.display())));
-            if let Err(it) = erase::names(&text, &mut names) {
-                stop(format!("{}:{}: {}", path.display(), it.line, it.why));
-            }
-            let to = path.strip_prefix(&base).expect("it lies there").with_extension("rs");
-            texts.push((own, path, out.join(own).join(to), text));
-        }
+    let out = PathBuf::from(
+        env::var_os("OUT_DIR").unwrap_or_else(|| stop("OUT_DIR is not set: cargo runs this program, and names the folder by it".into())),
+    );
+    let (mut names, mut used, mut refused) = (erase::Names::default(), erase::Used::default(), 0);
+    let mut refuse = |path: &Path, it: erase::Refusal| {
+        eprintln!("error: {}:{}: {}", path.display(), it.line, it.why);
+        refused += 1;
+    };
+    let all: Vec<Source> = CRATES.into_iter().flat_map(sources).collect();
+    for it in &all {
+        erase::names(&it.text, &mut names).unwrap_or_else(|why| refuse(&it.path, why));
     }
-    let mut refused = 0;
-    for (own, path, to, text) in texts {
-        match erase::erased(&text, own, &CRATES, &names) {
+    for it in &all {
+        match erase::erased(&it.text, it.own, &CRATES, &names, &mut used) {
             Ok(text) => {
-                fs::create_dir_all(to.parent().expect("a file has a folder")).expect("the build's folder can be written");
-                let text = added::with(&examples::tested(&text, own), own, &path_in(&path, own));
-                fs::write(&to, text).expect("the build's folder can be written");
+                let text = added::with(&examples::tested(&text, it.own), it.own, &it.name.to_string_lossy());
+                write(&out.join(it.own).join(it.name.with_extension("rs")), &text);
             }
-            Err(it) => {
-                eprintln!("error: {}:{}: {}", path.display(), it.line, it.why);
-                refused += 1;
-            }
+            Err(why) => refuse(&it.path, why),
         }
     }
     if refused > 0 {
-        stop(format!("{refused} files have what the eraser does not know"));
+        stop(format!("the eraser refused {refused} lines that it does not know: change them, or teach rust/erase.rs what they are in Rust"));
     }
-    let maps: String = CRATES
-        .iter()
-        .map(|own| format!("#[allow(dead_code, unused_imports, unused_variables, clippy::all)]\n#[deny(clippy::disallowed_methods)]\n#[path = \"{own}/lib.rs\"]\nmod {own};\n"))
-        .collect();
-    fs::write(out.join("maps.rs"), maps).expect("the build's folder can be written");
+    let unused = erase::unused(&used);
+    if !unused.is_empty() {
+        stop(format!("no file has what these rules and words of rust/erase.rs are for, so take them out:\n{}", unused.join("\n")));
+    }
+    let maps: String = CRATES.iter().map(|own| format!("{MODULE}#[path = \"{own}/lib.rs\"]\nmod {own};\n")).collect();
+    write(&out.join("maps.rs"), &maps);
 }

@@ -53,9 +53,11 @@ mod id_entry;
 pub mod id_ord_map;
 mod ord_entry;
 
+#[cfg(feature = "std")]
+pub use crate::DefaultHashBuilder;
 pub use crate::{
-    __bi_hash_map as bi_hash_map, __id_hash_map as id_hash_map, __id_ord_map as id_ord_map, __tri_hash_map as tri_hash_map, DefaultHashBuilder,
-    bi_upcast, id_upcast, tri_upcast,
+    __bi_hash_map as bi_hash_map, __id_hash_map as id_hash_map, __id_ord_map as id_ord_map, __tri_hash_map as tri_hash_map, bi_upcast, id_upcast,
+    tri_upcast,
 };
 pub use bi_hash_map::{BiHashItem, BiHashMap};
 pub use id_hash_map::{IdHashItem, IdHashMap};
@@ -245,7 +247,7 @@ macro_rules! maps {
             }
 
             /// A map as in the crate iddqd.
-            pub struct $map<T: $item, S: BuildHasher = DefaultHashBuilder> {
+            pub struct $map<T: $item, #[cfg(feature = "std")] S: BuildHasher = DefaultHashBuilder, #[cfg(not(feature = "std"))] S: BuildHasher> {
                 pub(in crate::iddqd) map: crate::$map<Held<T>, S>,
             }
 
@@ -255,6 +257,7 @@ macro_rules! maps {
                 }
             }
 
+            #[cfg(feature = "std")]
             impl<T: $item> $map<T> {
                 /// Makes an empty map.
                 pub fn new() -> Self {
@@ -621,7 +624,7 @@ macro_rules! maps {
             impl<T> FusedIterator for IntoIter<T> {}
 
             /// Each item, by a guard. Any number of the guards may be alive.
-            pub struct IterMut<'a, T: $item, S: BuildHasher = DefaultHashBuilder> {
+            pub struct IterMut<'a, T: $item, #[cfg(feature = "std")] S: BuildHasher = DefaultHashBuilder, #[cfg(not(feature = "std"))] S: BuildHasher> {
                 inner: ItemsMut<'a, Held<T>>,
                 builder: &'a S,
                 left: usize,
@@ -643,7 +646,7 @@ macro_rules! maps {
             impl<T: $item, S: BuildHasher> FusedIterator for IterMut<'_, T, S> {}
 
             /// An item that is borrowed for writing. It panics when it is dropped, if a key has another hash by then.
-            pub struct RefMut<'a, T: $item, S: BuildHasher = DefaultHashBuilder> {
+            pub struct RefMut<'a, T: $item, #[cfg(feature = "std")] S: BuildHasher = DefaultHashBuilder, #[cfg(not(feature = "std"))] S: BuildHasher> {
                 item: Option<&'a mut T>,
                 builder: &'a S,
                 hashes: [u64; RANKS],

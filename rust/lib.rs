@@ -3,7 +3,7 @@
 #![forbid(unsafe_code)]
 
 #[cfg(not(target_pointer_width = "64"))]
-compile_error!("the proofs are of 64 bits");
+compile_error!("facetweave is for targets of 64 bits, since the proofs of its maps are: build for one, as x86_64 or aarch64");
 
 extern crate alloc;
 
@@ -22,7 +22,9 @@ pub use errors::{AllocError, DuplicateItem, FromIterError, InsertReason, MemoryR
 pub use id_hash_map::{IdHashItem, IdHashItemMut, IdHashMap};
 pub use id_ord_map::{IdOrdItem, IdOrdItemMut, IdOrdMap};
 pub use iddqd_store::{Difference, Equivalent, ItemPair, Query, Row1, Row2, Row3};
-pub use rattle::hash::{DefaultHashBuilder, FoldHasher};
+#[cfg(feature = "std")]
+pub use rattle::hash::DefaultHashBuilder;
+pub use rattle::hash::FoldHasher;
 pub use sorted::{BiHashOrdMap, IdHashOrdMap, Sortable, Sorted, TriHashOrdMap};
 pub use tri_hash_map::{TriHashItem, TriHashItemMut, TriHashMap};
 

@@ -1,5 +1,8 @@
 //! Traits of Rust's std whose functions the proved text has by the same names.
 use crate::{iddqd_bi, iddqd_id, iddqd_ord, iddqd_order, iddqd_sorted, iddqd_store, iddqd_tri};
+use core::error::Error;
+use core::fmt::{Debug, Formatter};
+use core::hash::BuildHasher;
 
 impl<T> Clone for iddqd_store::Iter<'_, T> {
     fn clone(&self) -> Self {
@@ -65,15 +68,16 @@ laws! {
 impl<T: iddqd_ord::IdOrdItem + Clone> iddqd_ord::ClonesKeys for T {}
 
 /// The default builder of each map is the one of this crate.
-const _: fn(iddqd_id::DefaultHashBuilder) -> crate::DefaultHashBuilder = |it| it;
-const _: fn(iddqd_bi::DefaultHashBuilder) -> crate::DefaultHashBuilder = |it| it;
-const _: fn(iddqd_tri::DefaultHashBuilder) -> crate::DefaultHashBuilder = |it| it;
+#[cfg(feature = "std")]
+const _: [fn() -> crate::DefaultHashBuilder; 3] =
+    [iddqd_id::DefaultHashBuilder::new, iddqd_bi::DefaultHashBuilder::new, iddqd_tri::DefaultHashBuilder::new];
 
 // A map of the items of an array: a later item replaces those that conflict with it, as `collect` has it. The builder is the
 // default one, as std's maps have it, so that no type has to be named.
 macro_rules! from_array {
-    ($($map:ident $item:ident;)*) => {
+    ($($(#[$when:meta])? $map:ident $item:ident;)*) => {
         $(
+            $(#[$when])?
             impl<T: crate::$item, const N: usize> From<[T; N]> for crate::$map<T> {
                 fn from(items: [T; N]) -> Self {
                     crate::rattle::must(Self::try_from_iter(items))
@@ -84,9 +88,9 @@ macro_rules! from_array {
 }
 
 from_array! {
-    IdHashMap IdHashItem;
-    BiHashMap BiHashItem;
-    TriHashMap TriHashItem;
+    #[cfg(feature = "std")] IdHashMap IdHashItem;
+    #[cfg(feature = "std")] BiHashMap BiHashItem;
+    #[cfg(feature = "std")] TriHashMap TriHashItem;
     IdOrdMap IdOrdItem;
 }
 
@@ -188,20 +192,28 @@ macro_rules! short_lists {
 
 short_lists!(UpToTwo UpToThree);
 
-// The errors that borrow a map. A caller's function returns them by `?` as long as the map lives there.
+// The errors that borrow a map show the item and those in its way, as iddqd's do. A caller's function returns them by `?` as long as
+// the map lives there.
 macro_rules! borrowing_errors {
-    ($($module:ident $item:ident;)*) => {
+    ($($module:ident $item:ident [$($builder:ident)?] $conflicts:ident;)*) => {
         $(
-            impl<T: crate::$item, S: core::hash::BuildHasher> core::error::Error for crate::$module::InsertError<'_, T, S> {}
-            impl<T: crate::$item, S: core::hash::BuildHasher> core::error::Error for crate::$module::EntryRefusal<'_, T, S> {}
+            impl<T: crate::$item + Debug $(, $builder: BuildHasher)?> Debug for crate::$module::InsertError<'_, T $(, $builder)?> {
+                fn fmt(&self, f: &mut Formatter<'_>) -> core::fmt::Result {
+                    let mut out = f.debug_struct("InsertError");
+                    out.field("reason", &self.reason()).field("item", self.item()).field(stringify!($conflicts), &self.$conflicts()).finish()
+                }
+            }
+
+            impl<T: crate::$item + Debug $(, $builder: BuildHasher)?> Error for crate::$module::InsertError<'_, T $(, $builder)?> {}
+            impl<T: crate::$item + Debug $(, $builder: BuildHasher)?> Error for crate::$module::EntryRefusal<'_, T $(, $builder)?> {}
+            impl<T: crate::$item + Debug, E: Error $(, $builder: BuildHasher)?> Error for crate::$module::TryEntryRefusal<'_, T, E $(, $builder)?> {}
         )*
     };
 }
 
 borrowing_errors! {
-    id_hash_map IdHashItem;
-    bi_hash_map BiHashItem;
-    tri_hash_map TriHashItem;
+    id_hash_map IdHashItem [S] duplicate;
+    bi_hash_map BiHashItem [S] duplicates;
+    tri_hash_map TriHashItem [S] duplicates;
+    id_ord_map IdOrdItem [] duplicate;
 }
-
-impl<T: crate::IdOrdItem> core::error::Error for crate::id_ord_map::InsertError<'_, T> {}

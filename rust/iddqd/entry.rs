@@ -9,7 +9,7 @@ enum Found {
 }
 
 /// What a map has under two keys.
-pub enum Entry<'a, T: BiHashItem, S: BuildHasher = DefaultHashBuilder> {
+pub enum Entry<'a, T: BiHashItem, #[cfg(feature = "std")] S: BuildHasher = DefaultHashBuilder, #[cfg(not(feature = "std"))] S: BuildHasher> {
     /// Neither key is there.
     Vacant(VacantEntry<'a, T, S>),
     /// One of the keys is there, or both are.
@@ -17,13 +17,14 @@ pub enum Entry<'a, T: BiHashItem, S: BuildHasher = DefaultHashBuilder> {
 }
 
 /// A place that no item has.
-pub struct VacantEntry<'a, T: BiHashItem, S: BuildHasher = DefaultHashBuilder> {
+pub struct VacantEntry<'a, T: BiHashItem, #[cfg(feature = "std")] S: BuildHasher = DefaultHashBuilder, #[cfg(not(feature = "std"))] S: BuildHasher> {
     map: &'a mut BiHashMap<T, S>,
     hashes: [u64; 2],
 }
 
 /// One item or two that have one of the keys.
-pub struct OccupiedEntry<'a, T: BiHashItem, S: BuildHasher = DefaultHashBuilder> {
+pub struct OccupiedEntry<'a, T: BiHashItem, #[cfg(feature = "std")] S: BuildHasher = DefaultHashBuilder, #[cfg(not(feature = "std"))] S: BuildHasher>
+{
     map: &'a mut BiHashMap<T, S>,
     found: Found,
 }
@@ -44,7 +45,8 @@ pub enum OccupiedEntryRef<'a, T: BiHashItem> {
 
 /// The items of an occupied entry, borrowed for writing.
 #[derive(Debug)]
-pub enum OccupiedEntryMut<'a, T: BiHashItem, S: BuildHasher = DefaultHashBuilder> {
+pub enum OccupiedEntryMut<'a, T: BiHashItem, #[cfg(feature = "std")] S: BuildHasher = DefaultHashBuilder, #[cfg(not(feature = "std"))] S: BuildHasher>
+{
     /// One item has both keys.
     Unique(RefMut<'a, T, S>),
     /// No item has both.

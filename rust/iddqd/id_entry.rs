@@ -3,7 +3,7 @@ use super::id_hash_map::{Held, IdHashItem, IdHashMap, RefMut};
 use super::*;
 
 /// What a map has under a key.
-pub enum Entry<'a, T: IdHashItem, S: BuildHasher = DefaultHashBuilder> {
+pub enum Entry<'a, T: IdHashItem, #[cfg(feature = "std")] S: BuildHasher = DefaultHashBuilder, #[cfg(not(feature = "std"))] S: BuildHasher> {
     /// The key is not there.
     Vacant(VacantEntry<'a, T, S>),
     /// It is there.
@@ -11,13 +11,14 @@ pub enum Entry<'a, T: IdHashItem, S: BuildHasher = DefaultHashBuilder> {
 }
 
 /// A place that no item has.
-pub struct VacantEntry<'a, T: IdHashItem, S: BuildHasher = DefaultHashBuilder> {
+pub struct VacantEntry<'a, T: IdHashItem, #[cfg(feature = "std")] S: BuildHasher = DefaultHashBuilder, #[cfg(not(feature = "std"))] S: BuildHasher> {
     map: &'a mut IdHashMap<T, S>,
     hash: u64,
 }
 
 /// The item with a key.
-pub struct OccupiedEntry<'a, T: IdHashItem, S: BuildHasher = DefaultHashBuilder> {
+pub struct OccupiedEntry<'a, T: IdHashItem, #[cfg(feature = "std")] S: BuildHasher = DefaultHashBuilder, #[cfg(not(feature = "std"))] S: BuildHasher>
+{
     map: &'a mut IdHashMap<T, S>,
     slot: ItemIndex,
 }

@@ -449,13 +449,19 @@ impl<T: IdOrdItem> Iterator for IntoIter<T> {
 
 impl<T: IdOrdItem> FusedIterator for IntoIter<T> {}
 
+/// What hashes a key at both ends of a borrow: with a random seed where there is one.
+#[cfg(feature = "std")]
+type CheckBuilder = crate::DefaultHashBuilder;
+#[cfg(not(feature = "std"))]
+type CheckBuilder = core::hash::BuildHasherDefault<crate::FoldHasher>;
+
 /// An item that is borrowed for writing. It panics when it is dropped, if the key has another hash by then.
 pub struct RefMut<'a, T: IdOrdItem>
 where
     for<'k> T::Key<'k>: Hash,
 {
     item: Option<&'a mut T>,
-    builder: DefaultHashBuilder,
+    builder: CheckBuilder,
     hash: u64,
 }
 
@@ -464,12 +470,12 @@ where
     for<'k> T::Key<'k>: Hash,
 {
     fn new(item: &'a mut T) -> Self {
-        let builder = DefaultHashBuilder::default();
+        let builder = CheckBuilder::default();
         let hash = builder.hash_one(item.key());
         RefMut { item: Some(item), builder, hash }
     }
 
-    fn check(item: &T, builder: &DefaultHashBuilder, hash: u64) {
+    fn check(item: &T, builder: &CheckBuilder, hash: u64) {
         if builder.hash_one(item.key()) != hash {
             panic!("key changed during RefMut borrow");
         }

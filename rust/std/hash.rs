@@ -7,9 +7,9 @@ pub use std::hash::RandomState;
 #[cfg(feature = "std")]
 pub type DefaultHashBuilder = RandomState;
 
-/// The default builder of hashers, with a fixed seed: it does not protect against keys that are chosen to have equal hashes.
+/// Without `std` there is no default builder. The maps' modules import this name, no value has this type, and users cannot name it.
 #[cfg(not(feature = "std"))]
-pub type DefaultHashBuilder = BuildHasherDefault<FoldHasher>;
+pub enum DefaultHashBuilder {}
 
 /// `FoldHasher` of Rattle's std, rewritten in Rust.
 #[derive(Debug)]
