@@ -3,6 +3,8 @@ use std::path::{Path, PathBuf};
 use std::{env, fs, process};
 
 mod added;
+mod calls;
+mod docs;
 mod erase;
 mod examples;
 
@@ -56,7 +58,7 @@ fn main() {
         match erase::erased(&text, own, &CRATES, &names) {
             Ok(text) => {
                 fs::create_dir_all(to.parent().expect("a file has a folder")).expect("the build's folder can be written");
-                let text = added::with(&examples::tested(&text, own), own, &path_in(&path, own));
+                let text = added::with(&calls::shown(&docs::readable(&examples::tested(&text, own)), own), own, &path_in(&path, own));
                 fs::write(&to, text).expect("the build's folder can be written");
             }
             Err(it) => {
