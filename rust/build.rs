@@ -53,12 +53,12 @@ fn main() {
             texts.push((own, path, out.join(own).join(to), text));
         }
     }
-    let mut refused = 0;
+    let (mut refused, mut applied) = (0, docs::Applied::default());
     for (own, path, to, text) in texts {
         match erase::erased(&text, own, &CRATES, &names) {
             Ok(text) => {
                 fs::create_dir_all(to.parent().expect("a file has a folder")).expect("the build's folder can be written");
-                let text = added::with(&calls::shown(&docs::readable(&examples::tested(&text, own)), own), own, &path_in(&path, own));
+                let text = added::with(&calls::shown(&examples::tested(&docs::readable(&text, &mut applied), own), own), own, &path_in(&path, own));
                 fs::write(&to, text).expect("the build's folder can be written");
             }
             Err(it) => {
@@ -69,6 +69,9 @@ fn main() {
     }
     if refused > 0 {
         stop(format!("{refused} files have what the eraser does not know"));
+    }
+    if let left @ [_, ..] = docs::left_over(&applied).as_slice() {
+        stop(format!("rust/docs.rs: no docs have {left:?}"));
     }
     let maps: String = CRATES
         .iter()

@@ -21,7 +21,7 @@ const fn sorted(mark: &'static str, changes: &'static [(&'static str, &'static s
 }
 
 const JOBS: &str = "# include!(concat!(env!(\"CARGO_MANIFEST_DIR\"), \"/rust/tests/common/job.rs\"));
-// Jobs by their ids, names and seats, in the order of their times.";
+// Jobs by their ids, names and seats, in the order of their times: `job(id, name, time)`.";
 
 const CALLS: &[Calls] = &[
     calls("iddqd_id", "> IdHashMap<T", "use facetweave::{IdHashMap, Row1};", include_str!("calls/id.txt")),
