@@ -13,11 +13,26 @@ const ADVICE: &[(&str, &str, &str)] = &[
         "`{Self}` is no query for a key of type `{K}`",
         "a query is `&key`, a `&str` for a text, a number by itself, `Some(query)`, a tuple of queries, or a reference to a type that is `Equivalent<{K}>`",
     ),
+    (
+        "pub trait OrdQuery<",
+        "`{Self}` is no query for a key of type `{K}`",
+        "a query is `&key`, a `&str` for a text, a number by itself, `Some(query)`, a tuple of queries, or a type of your own that is `OrdQuery<{K}>`",
+    ),
+    (
+        "pub trait OrdSeek<",
+        "`{Self}` seeks no keys of type `{K}`",
+        "`Prefix(text)`, `First(&part)` and each query of `get` do: `&key`, a `&str` for a text, a number by itself, `Some(query)`, a tuple of queries",
+    ),
     ("pub trait IdHashItem {", "`{Self}` does not say what its key is", "write `impl IdHashItem for {Self}`, or use `Row1`"),
     ("pub trait BiHashItem {", "`{Self}` does not say what its keys are", "write `impl BiHashItem for {Self}`, or use `Row2`"),
     ("pub trait TriHashItem {", "`{Self}` does not say what its keys are", "write `impl TriHashItem for {Self}`, or use `Row3`"),
     ("pub trait IdOrdItem {", "`{Self}` does not say what its key is", "write `impl IdOrdItem for {Self}`, or use `Row1`"),
-    ("pub trait Sortable {", "`{Self}` does not say what it is ordered by", "write `impl Sortable for {Self}`"),
+    ("pub trait SlotMap", "`{Self}` is no hash map of this crate", "`Sorted` is over one: `BiHashOrdMap<T>` is `Sorted<BiHashMap<T>>`"),
+    (
+        "pub trait Sortable {",
+        "`{Self}` does not say what it is ordered by",
+        "write `impl Sortable for {Self}`, which has to be a type of your own: `Row1`, `Row2` and `Row3` have no order",
+    ),
 ];
 
 /// Plain Rust below the last line of a file, for what `iddqd.rs` and `traits.rs` need of its private fields.
