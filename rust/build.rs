@@ -4,6 +4,8 @@ use std::path::{Path, PathBuf};
 use std::{env, fs, process};
 
 mod added;
+mod calls;
+mod docs;
 mod erase;
 mod examples;
 
@@ -67,6 +69,7 @@ fn main() {
         env::var_os("OUT_DIR").unwrap_or_else(|| stop("OUT_DIR is not set: cargo runs this program, and names the folder by it".into())),
     );
     let (mut names, mut used, mut refused) = (erase::Names::default(), erase::Used::default(), 0);
+    let mut applied = docs::Applied::default();
     let mut refuse = |path: &Path, it: erase::Refusal| {
         eprintln!("error: {}:{}: {}", path.display(), it.line, it.why);
         refused += 1;
@@ -78,7 +81,8 @@ fn main() {
     for it in &all {
         match erase::erased(&it.text, it.own, &CRATES, &names, &mut used) {
             Ok(text) => {
-                let text = added::with(&examples::tested(&text, it.own), it.own, &it.name.to_string_lossy());
+                let shown = calls::shown(&examples::tested(&docs::readable(&text, &mut applied), it.own), it.own);
+                let text = added::with(&shown, it.own, &it.name.to_string_lossy());
                 write(&out.join(it.own).join(it.name.with_extension("rs")), &text);
             }
             Err(why) => refuse(&it.path, why),
@@ -90,6 +94,9 @@ fn main() {
     let unused = erase::unused(&used);
     if !unused.is_empty() {
         stop(format!("no file has what these rules and words of rust/erase.rs are for, so take them out:\n{}", unused.join("\n")));
+    }
+    if let left @ [_, ..] = docs::left_over(&applied).as_slice() {
+        stop(format!("rust/docs.rs: no docs have {left:?}"));
     }
     let maps: String = CRATES.iter().map(|own| format!("{MODULE}#[path = \"{own}/lib.rs\"]\nmod {own};\n")).collect();
     write(&out.join("maps.rs"), &maps);

@@ -28,31 +28,79 @@ pub use rattle::hash::FoldHasher;
 pub use sorted::{BiHashOrdMap, IdHashOrdMap, Sortable, Sorted, TriHashOrdMap};
 pub use tri_hash_map::{TriHashItem, TriHashItemMut, TriHashMap};
 
-/// The map of items with one hashed key.
+/// [`IdHashMap`]: items with one hashed key.
+///
+/// Begin with [`IdHashMap::try_insert`], [`get`](IdHashMap::get), [`data_mut`](IdHashMap::data_mut) and [`remove`](IdHashMap::remove). An item says
+/// what its key is by [`IdHashItem`], and what may be written in place by [`IdHashItemMut`]; [`Row1`] does so for you. The other types are what calls
+/// return: errors, entries, guards and iterators. The bounds `Ranked` and `Hashed` hold for every item.
 pub mod id_hash_map {
     pub use crate::iddqd_id::*;
 }
 
-/// The map of items with two hashed keys.
+/// [`BiHashMap`]: items with two hashed keys, each unique.
+///
+/// Begin with [`BiHashMap::try_insert`], [`get1`](BiHashMap::get1), [`data1_mut`](BiHashMap::data1_mut) and [`remove1`](BiHashMap::remove1), which
+/// have siblings for the second key. An item says what its keys are by [`BiHashItem`], and what may be written in place by [`BiHashItemMut`];
+/// [`Row2`] does so for you. The other types are what calls return: errors, entries, guards and iterators. The bounds `Ranked` and `Hashed` hold for
+/// every item.
 pub mod bi_hash_map {
     pub use crate::iddqd_bi::*;
 }
 
-/// The map of items with three hashed keys.
+/// [`TriHashMap`]: items with three hashed keys, each unique.
+///
+/// Begin with [`TriHashMap::try_insert`], [`get1`](TriHashMap::get1), [`data1_mut`](TriHashMap::data1_mut) and [`remove1`](TriHashMap::remove1),
+/// which have siblings for the other keys. An item says what its keys are by [`TriHashItem`], and what may be written in place by
+/// [`TriHashItemMut`]; [`Row3`] does so for you. The other types are what calls return: errors, entries, guards and iterators. The bounds `Ranked`
+/// and `Hashed` hold for every item.
 pub mod tri_hash_map {
     pub use crate::iddqd_tri::*;
 }
 
-/// The map of items in the order of their keys.
+/// [`IdOrdMap`]: items in the order of their keys, each unique.
+///
+/// Begin with [`IdOrdMap::try_insert`], [`get`](IdOrdMap::get), [`range`](IdOrdMap::range), [`first`](IdOrdMap::first) and
+/// [`pop_first`](IdOrdMap::pop_first). An item says what its key is by [`IdOrdItem`], and what may be written in place by [`IdOrdItemMut`];
+/// [`Row1`] does so for you. [`Prefix`](id_ord_map::Prefix) and [`First`](id_ord_map::First) find the keys that begin alike. The other types are what
+/// calls return.
 pub mod id_ord_map {
     pub use crate::iddqd_ord::*;
 }
 
-/// Hashed keys, and an order in which several items may have one place.
+/// [`Sorted`]: a hash map that also keeps its items in an order, in which several may be equal.
+///
+/// Name it by [`IdHashOrdMap`], [`BiHashOrdMap`] or [`TriHashOrdMap`], for one, two or three keys. Begin with [`Sorted::try_insert`],
+/// [`first`](Sorted::first), [`range`](Sorted::range), [`pop_to`](Sorted::pop_to) and [`replace`](Sorted::replace). An item says what it is ordered
+/// by with [`Sortable`]. [`inside`](Sorted::inside) is the hash map, with its lookups. Code that serves all three is generic over a
+/// [`SlotMap`](sorted::SlotMap), [`FindsBy`](sorted::FindsBy) or [`StoresData`](sorted::StoresData).
 pub mod sorted {
     pub use crate::iddqd_sorted::*;
     pub use crate::iddqd_store::{FindsBy, SlotMap, StoresData};
 }
+
+/// How to read what is folded below "Proved" and "Laws".
+///
+/// Below a function stand its clauses: what holds when it returns (`ensures`), and what its caller has to see to (`requires`). Below a trait stand its
+/// laws, which its implementor has to keep. A checker has proved each clause from the text of the function and the laws; Rust checks neither.
+///
+/// | Word | What it says |
+/// |---|---|
+/// | `ensures granted { .. }` | a clause, with its name |
+/// | `x.now`; `x.old`, `x.new` | the value of a borrowed `x`; with `&mut`, at the begin and at the end of the call |
+/// | `self`, `result` | the map, or what the function belongs to; what it returns |
+/// | `bag map.now` | the list of the map's items, in no order; `items` in an ordered map, in the order of the keys |
+/// | `IsPermutation a b` | the lists have the same items: `IsPermutation (bag self.new) (item ∷ bag self.old)` says that one item was inserted |
+/// | `a ∷ b`, `[]`, `a ++ b` | a list with `a` before `b`; the empty list; one list behind another |
+/// | `IfOk`, `IfErr`, `IfSome`; `OnOk`, `OnErr` | if the result is that, the rest holds for its value; if it is that, the rest holds |
+/// | `has1 .. key`, `IsOnly p bag x` | the test whether an item has this first key; `x` is the only item that passes, or `None` |
+/// | `conflicts_of .. bag x` | the items with a key of `x` |
+/// | `IsSound` | no two items have an equal key of the same rank; the rank of the first key is the first |
+/// | `T.key1`, `S.hash`, `T.put` | what the traits of `T` and `S` give: an item's first key, a hash, an item with other data |
+/// | `capacity`, `builder` | how many items fit; what makes the hashes |
+/// | `λ x. ..`, `→`, `×`, `≡` | a function of `x`; if, then; and; equal |
+///
+/// All words stand in `docs/DEFINITIONS.md` and `docs/words.md` of the repository.
+pub mod contracts {}
 
 /// What the maps are made of, for tests.
 #[doc(hidden)]
@@ -60,7 +108,7 @@ pub mod shared {
     pub use crate::iddqd_store::*;
 }
 
-/// What the maps' errors share.
+/// The errors that the maps have in common: a key that is taken, and memory that ran out. Each map's module has those of its own calls.
 pub mod errors {
     pub use crate::iddqd_store::{DuplicateItem, FromIterError, InsertReason, MemoryRefused, TryReserveError};
     pub use crate::rattle::alloc::AllocError;

@@ -1,15 +1,16 @@
-//! A two-way dictionary of words.
+//! A dictionary that is read in both directions, and counts how often a word was looked up. Its items are ready rows: two keys and a value.
 use facetweave::{BiHashMap, Row2};
-use std::collections::HashMap;
+use std::collections::BTreeMap;
 
 type Words = BiHashMap<Row2<String, String, u32>>;
 
-fn load(text: &str) -> Result<Words, String> {
+/// Reads lines of the form `Hund = dog`.
+fn read(text: &str) -> Result<Words, String> {
     let mut words = Words::new();
-    for (number, line) in text.lines().enumerate() {
-        let (german, english) = line.split_once('=').ok_or_else(|| format!("line {}: no =", number + 1))?;
-        let row = Row2::new(german.trim().to_string(), english.trim().to_string(), 0);
-        words.try_insert(row).map_err(|e| format!("line {}: {e}", number + 1))?;
+    for (line, number) in text.lines().zip(1..) {
+        let (german, english) = line.split_once(" = ").ok_or_else(|| format!("line {number}: there is no ` = `"))?;
+        let row = Row2::new(german.to_string(), english.to_string(), 0);
+        words.try_insert(row).map_err(|e| format!("line {number}: {e}"))?;
     }
     Ok(words)
 }
@@ -19,30 +20,26 @@ fn to_english<'a>(words: &'a mut Words, german: &str) -> Option<&'a str> {
     words.get1(german).map(|row| row.key2.as_str())
 }
 
-fn main() {
-    let text = "Haus = house\nHund = dog\nBaum = tree";
-    let mut words = load(text).unwrap();
-    assert_eq!(to_english(&mut words, "Hund"), Some("dog"));
-    assert_eq!(words.get2("tree").unwrap().key1, "Baum");
-    assert_eq!(load("a = b\na = c").unwrap_err(), "line 2: an item with an equal first key is there already");
+fn main() -> Result<(), Box<dyn std::error::Error>> {
+    let mut words = read("Haus = house\nHund = dog\nBaum = tree")?;
+    println!("{:?}", to_english(&mut words, "Hund"));
+    println!("{:?}", to_english(&mut words, "Katze"));
+    println!("{:?}", words.get2("tree").map(|row| &row.key1));
+    println!("{}", read("Hund = dog\nHund = hound").unwrap_err());
+    println!("{}", read("Hund = dog\nRüde = dog").unwrap_err());
 
-    // From arrays, iterators and std's maps, and back.
-    let more: Words = [("eins", "one"), ("zwei", "two")].into_iter().map(|(a, b)| Row2::new(a.to_string(), b.to_string(), 0)).collect();
-    let small = BiHashMap::from([Row2::new(1, "one", ()), Row2::new(2, "two", ())]);
-    assert_eq!(small.get2("one").unwrap().key1, 1);
-    words.extend(more.clone());
-    assert_eq!(words.len(), 5);
-    let english: HashMap<&str, &str> = words.iter().map(|row| (row.key1.as_str(), row.key2.as_str())).collect();
-    assert_eq!(english["zwei"], "two");
-    let replaced = words.insert_overwrite(Row2::new("Haus".to_string(), "dog".to_string(), 0)).unwrap();
-    assert_eq!(replaced.len(), 2);
-    for row in replaced {
-        println!("gone: {} = {}", row.key1, row.key2);
+    // A word that is put over others replaces each that has one of its keys.
+    for row in words.insert_overwrite(Row2::new("Haus".to_string(), "dog".to_string(), 0))? {
+        println!("gone: {} = {}, looked up {} times", row.key1, row.key2, row.value);
     }
-    for uses in &mut words {
-        *uses += 1;
+
+    // From an iterator, and into a map of std.
+    words.extend([("eins", "one"), ("zwei", "two")].map(|(german, english)| Row2::new(german.to_string(), english.to_string(), 0)));
+    for times in &mut words {
+        *times += 1;
     }
-    let mut sorted: Vec<_> = words.into_iter().collect();
-    sorted.sort();
-    println!("{sorted:?}");
+    let english: BTreeMap<&str, &str> = words.iter().map(|row| (row.key2.as_str(), row.key1.as_str())).collect();
+    println!("{english:?}");
+    println!("looked up {} times", words.iter().map(|row| row.value).sum::<u32>());
+    Ok(())
 }

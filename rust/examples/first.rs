@@ -1,4 +1,4 @@
-// cargo add --git REPOSITORY facetweave
+//! Devices by serial number and by port: the first program of README.
 use facetweave::{BiHashMap, Row2};
 
 fn main() -> Result<(), Box<dyn std::error::Error>> {

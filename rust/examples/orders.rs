@@ -1,128 +1,110 @@
-//! An order book: orders by id, each side in the order of price and time.
+//! An order book of an exchange: orders by number, each side in the order of price and time. One map has both sides, so a number is given once.
+use facetweave::sorted::Iter;
 use facetweave::{IdHashItem, IdHashItemMut, IdHashOrdMap, Sortable};
-use std::cmp::Reverse;
 
-#[derive(Clone, Copy, Debug, PartialEq)]
+#[derive(Clone, Copy, Debug, PartialEq, Eq, PartialOrd, Ord)]
+enum Side {
+    Buy,
+    Sell,
+}
+
+#[derive(Clone, Debug)]
 struct Order {
-    id: u64,
-    price: u64,
+    number: u64,
+    side: Side,
+    price: i64,
     amount: u64,
     time: u64,
 }
 
-#[derive(Clone, Copy, Debug)]
-struct Ask(Order);
-#[derive(Clone, Copy, Debug)]
-struct Bid(Order);
-
-impl IdHashItem for Ask {
+impl IdHashItem for Order {
     type Key = u64;
+
     fn key(&self) -> &u64 {
-        &self.0.id
+        &self.number
     }
 }
 
-impl IdHashItemMut for Ask {
+impl IdHashItemMut for Order {
     type Data = u64;
+
     fn data_mut(&mut self) -> &mut u64 {
-        &mut self.0.amount
+        &mut self.amount
     }
 }
 
-impl Sortable for Ask {
-    type SortKey = (u64, u64);
-    fn sort_key(&self) -> (u64, u64) {
-        (self.0.price, self.0.time)
-    }
-}
+// The best order of a side comes first: the highest price for which one buys, the lowest for which one sells, and of those the oldest.
+impl Sortable for Order {
+    type SortKey = (Side, i64, u64);
 
-impl IdHashItem for Bid {
-    type Key = u64;
-    fn key(&self) -> &u64 {
-        &self.0.id
-    }
-}
-
-impl IdHashItemMut for Bid {
-    type Data = u64;
-    fn data_mut(&mut self) -> &mut u64 {
-        &mut self.0.amount
-    }
-}
-
-impl Sortable for Bid {
-    type SortKey = (Reverse<u64>, u64);
-    fn sort_key(&self) -> (Reverse<u64>, u64) {
-        (Reverse(self.0.price), self.0.time)
+    fn sort_key(&self) -> (Side, i64, u64) {
+        (self.side, if self.side == Side::Buy { -self.price } else { self.price }, self.time)
     }
 }
 
 #[derive(Default)]
 struct Book {
-    asks: IdHashOrdMap<Ask>,
-    bids: IdHashOrdMap<Bid>,
+    orders: IdHashOrdMap<Order>,
     time: u64,
 }
 
-#[derive(Debug, PartialEq)]
-struct Trade {
-    buyer: u64,
-    seller: u64,
-    price: u64,
-    amount: u64,
-}
-
 impl Book {
-    fn buy(&mut self, id: u64, price: u64, mut amount: u64) -> Vec<Trade> {
+    fn side(&self, side: Side) -> Iter<'_, Order> {
+        self.orders.range((side, i64::MIN, 0)..=(side, i64::MAX, u64::MAX))
+    }
+
+    /// Trades with the best orders of the other side as long as the prices meet, and puts what is left into the book.
+    fn place(&mut self, number: u64, side: Side, price: i64, amount: u64) -> Result<(), String> {
+        if self.orders.contains_key(number) {
+            return Err(format!("there is an order {number} already"));
+        }
         self.time += 1;
-        let mut trades = Vec::new();
-        while amount > 0 {
-            let Some(&Ask(best)) = self.asks.first() else { break };
-            if best.price > price {
+        let mut order = Order { number, side, price, amount, time: self.time };
+        let other = if side == Side::Buy { Side::Sell } else { Side::Buy };
+        while let Some(best) = self.side(other).next() {
+            let meets = if side == Side::Buy { best.price <= price } else { best.price >= price };
+            if order.amount == 0 || !meets {
                 break;
             }
-            let traded = amount.min(best.amount);
-            amount -= traded;
-            trades.push(Trade { buyer: id, seller: best.id, price: best.price, amount: traded });
-            if traded == best.amount {
-                self.asks.remove(best.id);
+            let (best, left, traded) = (best.number, best.amount, best.amount.min(order.amount));
+            println!("{number} trades {traded} with {best}");
+            order.amount -= traded;
+            if traded == left {
+                self.orders.remove(best);
             } else {
-                self.asks.update(&best.id, |ask| ask.0.amount - traded);
+                self.orders.update(best, |it| it.amount - traded);
             }
         }
-        if amount > 0 {
-            self.bids.try_insert(Bid(Order { id, price, amount, time: self.time })).expect("the id is new");
+        if order.amount > 0 {
+            self.orders.try_insert(order).map_err(|e| e.to_string())?;
         }
-        trades
+        Ok(())
     }
 
-    fn sell(&mut self, id: u64, price: u64, amount: u64) {
-        self.time += 1;
-        self.asks.try_insert(Ask(Order { id, price, amount, time: self.time })).expect("the id is new");
-    }
-
-    fn cancel(&mut self, id: u64) -> Option<Order> {
-        self.asks.remove(id).map(|it| it.0).or_else(|| self.bids.remove(id).map(|it| it.0))
-    }
-
-    fn depth(&self, up_to: u64) -> u64 {
-        self.asks.range(..(up_to + 1, 0)).map(|ask| ask.0.amount).sum()
+    fn show(&self) {
+        for side in [Side::Sell, Side::Buy] {
+            let orders: Vec<String> = self.side(side).map(|it| format!("{} at {} ({})", it.amount, it.price, it.number)).collect();
+            println!("{side:?}: {}", orders.join(", "));
+        }
     }
 }
 
-fn main() {
+fn main() -> Result<(), String> {
     let mut book = Book::default();
-    book.sell(1, 101, 5);
-    book.sell(2, 100, 3);
-    book.sell(3, 100, 4);
-    assert_eq!(book.depth(100), 7);
-    let trades = book.buy(10, 100, 5);
-    println!("{trades:#?}");
-    assert_eq!(trades.len(), 2);
-    assert_eq!(trades[0], Trade { buyer: 10, seller: 2, price: 100, amount: 3 });
-    assert_eq!(book.buy(11, 99, 2), []);
-    assert_eq!(book.bids.first().unwrap().0.id, 11);
-    assert_eq!(book.cancel(3).unwrap().amount, 2);
-    assert_eq!(book.cancel(3), None);
-    println!("{:?}", book.asks);
+    book.place(1, Side::Sell, 101, 5)?;
+    book.place(2, Side::Sell, 100, 3)?;
+    book.place(3, Side::Sell, 100, 4)?;
+    book.place(4, Side::Buy, 98, 2)?;
+    book.place(5, Side::Buy, 99, 2)?;
+    book.show();
+
+    book.place(6, Side::Buy, 100, 5)?;
+    println!("{}", book.place(3, Side::Buy, 100, 5).unwrap_err());
+    book.show();
+
+    // An order can be cancelled by its number.
+    println!("cancelled: {:?}", book.orders.remove(3).map(|it| it.amount));
+    book.place(7, Side::Sell, 98, 10)?;
+    book.show();
+    Ok(())
 }

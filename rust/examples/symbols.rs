@@ -1,87 +1,79 @@
-//! A symbol table with scopes: by scope and name, and by address.
+//! The symbols of a compiler: by scope and name, and by address. A name may hide that of an outer scope; an address is given once.
 use facetweave::{BiHashItem, BiHashMap};
-
-#[derive(Clone, Debug, PartialEq, Eq, Hash)]
-struct Place {
-    scope: u32,
-    name: String,
-}
 
 #[derive(Debug)]
 struct Symbol {
-    place: Place,
+    /// The scope and the name in it.
+    place: (u32, String),
     address: u64,
     kind: &'static str,
 }
 
 impl BiHashItem for Symbol {
-    type K1 = Place;
+    type K1 = (u32, String);
     type K2 = u64;
-    fn key1(&self) -> &Place {
+
+    fn key1(&self) -> &(u32, String) {
         &self.place
     }
+
     fn key2(&self) -> &u64 {
         &self.address
     }
 }
 
 #[derive(Default)]
-struct Table {
-    symbols: BiHashMap<Symbol>,
+struct Symbols {
+    all: BiHashMap<Symbol>,
     open: Vec<u32>,
     scopes: u32,
 }
 
-impl Table {
+impl Symbols {
     fn enter(&mut self) {
         self.scopes += 1;
         self.open.push(self.scopes);
     }
 
-    fn leave(&mut self) -> usize {
-        let Some(scope) = self.open.pop() else { return 0 };
-        let before = self.symbols.len();
-        self.symbols.retain(|s| s.place.scope != scope);
-        before - self.symbols.len()
+    /// Leaves the innermost scope, whose symbols are dropped.
+    fn leave(&mut self) {
+        let left = self.open.pop();
+        self.all.retain(|symbol| Some(symbol.place.0) != left);
     }
 
     fn define(&mut self, name: &str, address: u64, kind: &'static str) -> Result<(), String> {
         let scope = *self.open.last().ok_or("no scope is open")?;
-        let symbol = Symbol { place: Place { scope, name: name.to_string() }, address, kind };
-        match self.symbols.insert_unique(symbol) {
-            Ok(()) => Ok(()),
-            Err(e) => {
-                let others: Vec<String> = e.duplicates().iter().map(|s| format!("{} at {}", s.place.name, s.address)).collect();
-                Err(format!("{} conflicts with {}", e.item().place.name, others.join(" and ")))
-            }
-        }
+        let symbol = Symbol { place: (scope, name.to_string()), address, kind };
+        // The error of `insert_unique` lends the symbols that are in the way.
+        self.all.insert_unique(symbol).map_err(|e| {
+            let others: Vec<String> = e.duplicates().iter().map(|it| format!("{} at {:#x}", it.place.1, it.address)).collect();
+            format!("{name} at {address:#x} conflicts with {}", others.join(" and "))
+        })
     }
 
+    /// Finds a name in the innermost scope that has it. The query is a pair of a number and a text, so no `String` is made.
     fn find(&self, name: &str) -> Option<&Symbol> {
-        self.open.iter().rev().find_map(|&scope| self.symbols.get1(&Place { scope, name: name.to_string() }))
-    }
-
-    fn at(&self, address: u64) -> Option<&Symbol> {
-        self.symbols.get2(address)
+        self.open.iter().rev().find_map(|&scope| self.all.get1((scope, name)))
     }
 }
 
-fn main() {
-    let mut table = Table::default();
-    assert_eq!(table.define("x", 1, "u8"), Err("no scope is open".to_string()));
-    table.enter();
-    table.define("x", 0x1000, "u8").unwrap();
-    table.define("main", 0x2000, "fn").unwrap();
-    table.enter();
-    table.define("x", 0x1008, "u64").unwrap();
-    println!("{:?}", table.define("x", 0x2000, "u16"));
-    assert_eq!(table.find("x").unwrap().kind, "u64");
-    assert_eq!(table.find("main").unwrap().address, 0x2000);
-    assert_eq!(table.at(0x1000).map(|s| s.kind), Some("u8"));
-    assert_eq!(table.leave(), 1);
-    assert_eq!(table.find("x").unwrap().kind, "u8");
-    assert!(table.at(0x1008).is_none());
-    let mut all: Vec<_> = table.symbols.into_iter().collect();
-    all.sort_by_key(|s| s.address);
-    println!("{all:?}");
+fn main() -> Result<(), String> {
+    let mut symbols = Symbols::default();
+    println!("{}", symbols.define("x", 0x1000, "u8").unwrap_err());
+    symbols.enter();
+    symbols.define("x", 0x1000, "u8")?;
+    symbols.define("main", 0x2000, "fn")?;
+    symbols.enter();
+    symbols.define("x", 0x1008, "u64")?;
+    println!("{}", symbols.define("x", 0x2000, "u16").unwrap_err());
+    println!("{}", symbols.define("y", 0x2000, "u16").unwrap_err());
+
+    println!("x is a {}", symbols.find("x").unwrap().kind);
+    println!("main is a {}", symbols.find("main").unwrap().kind);
+    println!("at 0x1000 is {:?}", symbols.all.get2(0x1000).unwrap().place);
+    symbols.leave();
+    println!("x is a {}", symbols.find("x").unwrap().kind);
+    println!("at 0x1008 is {:?}", symbols.all.get2(0x1008));
+    println!("{} symbols are left", symbols.all.len());
+    Ok(())
 }

@@ -1,5 +1,4 @@
 //! Which errors are `std::error::Error`, `Send`, `Sync`; which texts they have; and that each shows its item.
-use facetweave::*;
 use std::error::Error;
 
 include!("common/job.rs");
@@ -111,7 +110,7 @@ fn an_error_shows_its_item() {
 
     let mut jobs = BiHashOrdMap::new();
     let refused = format!("{:?}", jobs.extend_unique([job(1, "a", 7), job(1, "b", 7)]).unwrap_err());
-    let (a, b) = (r#"Job { id: 1, name: "a", time: 7 }"#, r#"Job { id: 1, name: "b", time: 7 }"#);
+    let (a, b) = (r#"Job { id: 1, name: "a", seat: 11, time: 7 }"#, r#"Job { id: 1, name: "b", seat: 11, time: 7 }"#);
     assert_eq!(refused, format!("ExtendUniqueError {{ before: [{a}], rejected: Rejected {{ item: {b}, taken1: true, taken2: false }} }}"));
 }
 

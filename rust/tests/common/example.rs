@@ -13,6 +13,8 @@ struct Item {
 type Step = Item;
 type Port = u32;
 type Person = u32;
+type Files = IdOrdMap<Row1<(u32, String), ()>>;
+type Hosts = IdOrdMap<Row1<String, ()>>;
 
 enum Refused {
     Taken(Item),

@@ -1,0 +1,69 @@
+//! The examples of the maps' calls, which the docs show and `cargo test` runs: a file of `calls/` has them for a map, each below the call's name.
+
+/// The examples of a map's calls.
+struct Calls {
+    own: &'static str,
+    /// What stands in a file that has calls of the map.
+    mark: &'static str,
+    /// What each example begins with.
+    head: &'static str,
+    examples: &'static str,
+    /// What is written otherwise, of the examples and of a call's name.
+    changes: &'static [(&'static str, &'static str)],
+}
+
+const fn calls(own: &'static str, mark: &'static str, head: &'static str, examples: &'static str) -> Calls {
+    Calls { own, mark, head, examples, changes: &[] }
+}
+
+const fn sorted(mark: &'static str, changes: &'static [(&'static str, &'static str)]) -> Calls {
+    Calls { own: "iddqd_sorted", mark, head: JOBS, examples: include_str!("calls/sorted.txt"), changes }
+}
+
+const JOBS: &str = "# include!(concat!(env!(\"CARGO_MANIFEST_DIR\"), \"/rust/tests/common/job.rs\"));
+// Jobs by their ids, names and seats, in the order of their times: `job(id, name, time)`.";
+
+const CALLS: &[Calls] = &[
+    calls("iddqd_id", "> IdHashMap<T", "use facetweave::{IdHashMap, Row1};", include_str!("calls/id.txt")),
+    calls("iddqd_bi", "> BiHashMap<T", "use facetweave::{BiHashMap, Row2};", include_str!("calls/bi.txt")),
+    calls("iddqd_tri", "> TriHashMap<T", "use facetweave::{TriHashMap, Row3};", include_str!("calls/tri.txt")),
+    calls("iddqd_ord", "> IdOrdMap<T", "use facetweave::{IdOrdMap, Row1};", include_str!("calls/ord.txt")),
+    sorted("> Sorted<M", &[]),
+    sorted(
+        "> Sorted<IdHashMap<T",
+        &[
+            ("BiHashOrdMap", "IdHashOrdMap"),
+            ("get1", "get"),
+            ("contains_key1", "contains_key"),
+            ("remove1", "remove"),
+            ("rekey1", "rekey"),
+            ("update1", "update"),
+        ],
+    ),
+    sorted("> Sorted<BiHashMap<T", &[]),
+    sorted("> Sorted<TriHashMap<T", &[("BiHashOrdMap", "TriHashOrdMap")]),
+];
+
+/// The example for a call, as docs on the function's line. The first line of the examples stands before each that has no map of its own.
+fn example(name: &str, calls: &Calls) -> Option<String> {
+    let examples = calls.changes.iter().fold(calls.examples.to_string(), |text, (old, new)| text.replace(old, new));
+    let (_, example) = examples.split_once(&format!("\n[{name}]\n"))?;
+    let example: String = example.lines().take_while(|it| !it.starts_with('[')).map(|it| format!("{it}\n")).collect();
+    let has_map = example.starts_with("let map") || example.contains("\nlet map");
+    let first = examples.split_inclusive('\n').next().filter(|_| !has_map).unwrap_or_default();
+    let main = "# fn main() -> Result<(), Box<dyn std::error::Error>> {";
+    Some(format!("#[doc = {:?}] ", format!("\n```\n{}\n{main}\n{first}{example}# Ok(())\n# }}\n```", calls.head)))
+}
+
+/// Returns the text with an example before each call. Each line keeps its number.
+pub fn shown(text: &str, own: &str) -> String {
+    let Some(calls) = CALLS.iter().find(|it| it.own == own && text.contains(it.mark)) else { return text.to_string() };
+    let mut lines: Vec<String> = text.split('\n').map(str::to_string).collect();
+    for line in &mut lines {
+        let function = line.strip_prefix("    ").map(|it| it.trim_start_matches("#[inline] ")).and_then(|it| it.strip_prefix("pub fn "));
+        if let Some(found) = function.and_then(|it| it.split(['(', '<']).next()).and_then(|name| example(name, calls)) {
+            line.insert_str(4, &found);
+        }
+    }
+    lines.join("\n")
+}
