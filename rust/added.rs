@@ -1,5 +1,6 @@
 //! What the written files have beside the proved text: advice for the compiler's messages, and below a file's last line the plain Rust
 //! of `lend/`.
+use std::collections::BTreeSet;
 
 /// What the compiler says where a bound on one of these traits is not met: the trait's line, the message, the note.
 const ADVICE: &[(&str, &str, &str)] = &[
@@ -35,34 +36,41 @@ const ADVICE: &[(&str, &str, &str)] = &[
     ),
 ];
 
-/// Plain Rust below the last line of a file, for what `iddqd.rs` and `traits.rs` need of its private fields.
-fn lent(own: &str, path: &str) -> String {
-    let map = |name: &str| include_str!("lend/map.rs").replace("ITEM", &format!("{name}Item")).replace("MAP", &format!("{name}Map"));
-    match (own, path) {
-        ("iddqd_store", "item_set.rt") => include_str!("lend/items.rs").to_string(),
-        ("iddqd_store", "lib.rt") => include_str!("lend/store.rs").to_string(),
-        ("iddqd_order", "block.rt") => include_str!("lend/block.rs").to_string(),
-        ("iddqd_order", "row.rt") => include_str!("lend/row.rs").to_string(),
-        ("iddqd_order", "blocks.rt") => include_str!("lend/blocks.rs").to_string(),
-        ("iddqd_order", "lib.rt") => include_str!("lend/order.rs").to_string(),
-        ("iddqd_ord", "map.rt") => include_str!("lend/ordered.rs").to_string(),
-        ("iddqd_id", "map.rt") => map("IdHash"),
-        ("iddqd_bi", "map.rt") => map("BiHash"),
-        ("iddqd_tri", "map.rt") => map("TriHash"),
-        _ => String::new(),
-    }
+/// Plain Rust below the last line of a file, for what `iddqd.rs` and `traits.rs` need of its private fields: the crate, the file, what `MAP` and
+/// `ITEM` begin with in the text, and the text.
+const LENT: &[(&str, &str, &str, &str)] = &[
+    ("iddqd_store", "item_set.rt", "", include_str!("lend/items.rs")),
+    ("iddqd_store", "lib.rt", "", include_str!("lend/store.rs")),
+    ("iddqd_order", "block.rt", "", include_str!("lend/block.rs")),
+    ("iddqd_order", "row.rt", "", include_str!("lend/row.rs")),
+    ("iddqd_order", "blocks.rt", "", include_str!("lend/blocks.rs")),
+    ("iddqd_order", "lib.rt", "", include_str!("lend/order.rs")),
+    ("iddqd_ord", "map.rt", "", include_str!("lend/ordered.rs")),
+    ("iddqd_id", "map.rt", "IdHash", include_str!("lend/map.rs")),
+    ("iddqd_bi", "map.rt", "BiHash", include_str!("lend/map.rs")),
+    ("iddqd_tri", "map.rt", "TriHash", include_str!("lend/map.rs")),
+];
+
+/// The traits with advice, and the files with a text of `lend/`, that no file of the maps is.
+pub fn unused(used: &BTreeSet<String>) -> Vec<String> {
+    let files = LENT.iter().map(|(own, path, _, _)| format!("{own}/{path}"));
+    ADVICE.iter().map(|it| it.0.to_string()).chain(files).filter(|it| !used.contains(it)).collect()
 }
 
-/// Returns the text with both. Each line keeps its number.
-pub fn with(text: &str, own: &str, path: &str) -> String {
+/// Returns the text with both, and notes what applied. Each line keeps its number.
+pub fn with(text: &str, own: &str, path: &str, used: &mut BTreeSet<String>) -> String {
     let mut lines: Vec<String> = text.split('\n').map(str::to_string).collect();
     for line in &mut lines {
-        if let Some((_, message, note)) = ADVICE.iter().find(|it| line.contains(it.0)) {
+        if let Some((of, message, note)) = ADVICE.iter().find(|it| line.contains(it.0)) {
+            used.insert(of.to_string());
             line.insert_str(0, &format!("#[diagnostic::on_unimplemented(message = {message:?}, note = {note:?})] "));
         }
     }
-    match lent(own, path) {
-        below if below.is_empty() => lines.join("\n"),
-        below => lines.join("\n") + "\n" + &below,
+    let mut text = lines.join("\n");
+    if let Some((_, _, name, lent)) = LENT.iter().find(|it| it.0 == own && it.1 == path) {
+        used.insert(format!("{own}/{path}"));
+        text += "\n";
+        text += &lent.replace("ITEM", &format!("{name}Item")).replace("MAP", &format!("{name}Map"));
     }
+    text
 }

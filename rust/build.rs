@@ -1,5 +1,4 @@
 //! Makes the plain Rust of the proved maps in the build's folder.
-use std::io::ErrorKind;
 use std::path::{Path, PathBuf};
 use std::{env, fs, process};
 
@@ -47,10 +46,13 @@ fn sources(own: &'static str) -> Vec<Source> {
     if let Err(e) = files(&base, &mut paths) {
         stop(format!("{}: {e}. The proved text of the maps has to stand there: build in a whole clone of the repository", base.display()));
     }
-    let read = |path: PathBuf| match fs::read_to_string(&path) {
-        Ok(text) => Source { own, name: path.strip_prefix(&base).expect("the file lies there").to_path_buf(), path, text },
-        Err(e) if e.kind() == ErrorKind::InvalidData => stop(format!("{}: the file is not text in UTF-8: write it in UTF-8", path.display())),
-        Err(e) => stop(format!("{}: {e}: the file has to be readable", path.display())),
+    let read = |path: PathBuf| {
+        let bytes = fs::read(&path).unwrap_or_else(|e| stop(format!("{}: {e}: the file has to be readable", path.display())));
+        let text = String::from_utf8(bytes).unwrap_or_else(|e| {
+            let line = e.as_bytes()[..e.utf8_error().valid_up_to()].iter().filter(|&&it| it == b'\n').count() + 1;
+            stop(format!("{}:{line}: the text is not UTF-8: write the file in UTF-8", path.display()))
+        });
+        Source { own, name: path.strip_prefix(&base).expect("the file lies there").to_path_buf(), path, text }
     };
     paths.into_iter().map(read).collect()
 }
@@ -68,32 +70,35 @@ fn main() {
     let out = PathBuf::from(
         env::var_os("OUT_DIR").unwrap_or_else(|| stop("OUT_DIR is not set: cargo runs this program, and names the folder by it".into())),
     );
+    let all: Vec<Source> = CRATES.into_iter().flat_map(sources).collect();
     let (mut names, mut used, mut refused) = (erase::Names::default(), erase::Used::default(), 0);
     let mut applied = docs::Applied::default();
-    let mut refuse = |path: &Path, it: erase::Refusal| {
-        eprintln!("error: {}:{}: {}", path.display(), it.line, it.why);
-        refused += 1;
-    };
-    let all: Vec<Source> = CRATES.into_iter().flat_map(sources).collect();
     for it in &all {
-        erase::names(&it.text, &mut names).unwrap_or_else(|why| refuse(&it.path, why));
+        if let Err(why) = erase::names(&it.text, &mut names) {
+            stop(format!("{}:{}: {}: the eraser does not know this: write it otherwise", it.path.display(), why.line, why.why));
+        }
     }
     for it in &all {
         match erase::erased(&it.text, it.own, &CRATES, &names, &mut used) {
             Ok(text) => {
                 let shown = calls::shown(&examples::tested(&docs::readable(&text, &mut applied), it.own), it.own);
-                let text = added::with(&shown, it.own, &it.name.to_string_lossy());
+                let text = added::with(&shown, it.own, &it.name.to_string_lossy(), &mut used);
                 write(&out.join(it.own).join(it.name.with_extension("rs")), &text);
             }
-            Err(why) => refuse(&it.path, why),
+            Err(why) => {
+                eprintln!("error: {}:{}: {}", it.path.display(), why.line, why.why);
+                refused += 1;
+            }
         }
     }
     if refused > 0 {
-        stop(format!("the eraser refused {refused} lines that it does not know: change them, or teach rust/erase.rs what they are in Rust"));
+        stop(format!(
+            "the eraser refused {refused} files for lines that it does not know: write them otherwise, or teach rust/erase.rs what they are in Rust"
+        ));
     }
-    let unused = erase::unused(&used);
+    let unused = [erase::unused(&used), added::unused(&used)].concat();
     if !unused.is_empty() {
-        stop(format!("no file has what these rules and words of rust/erase.rs are for, so take them out:\n{}", unused.join("\n")));
+        stop(format!("no file has what these rules and words of rust/erase.rs and rust/added.rs are for, so take them out:\n{}", unused.join("\n")));
     }
     if let left @ [_, ..] = docs::left_over(&applied).as_slice() {
         stop(format!("rust/docs.rs: no docs have {left:?}"));

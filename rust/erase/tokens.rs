@@ -60,6 +60,7 @@ fn token_at(chars: &[char], at: usize, line: usize) -> Outcome<(Kind, usize)> {
             };
             (kind, past(at, &|c| c != '\n'))
         }
+        '\t' | '\r' => return refuse(line, "a tab, or a carriage return at the end of a line"),
         '/' if next == '*' => return refuse(line, "a comment in `/* */`"),
         '"' => (Other, end_of_text(chars, at, line)?),
         '\'' if next == '\\' || chars.get(at + 2) == Some(&'\'') => return refuse(line, "a character as a literal"),

@@ -104,6 +104,7 @@ fn what_is_not_known_is_refused() {
     refuses("fn f() -> char {\n    'a'\n}", 2, "a character");
     refuses("fn f() {\n    (1]\n}", 2, "another kind");
     refuses("/* a */", 1, "a comment");
+    refuses("fn f() {\r\n}", 1, "a carriage return");
     refuses("fn f() {", 1, "not closed");
     refuses("ghost fn f() {}", 1, "an item without");
     refuses("fn f<T>() where Vec<Drop, u8>: Eq {}", 1, "left");
