@@ -10,7 +10,9 @@ const HIDDEN: &[(&str, &str, &str)] = &[
         "ClonesHashes ClonesKeys FoundByHash Hashed HashedKey Holds KeepsKey KeepsOrder KeyMatcher KeyOf KeyOrder Lookup Matcher Ranked",
     ),
     ("", "pub mod", "ranks"),
-    ("", "pub fn", "find_with find1_with find2_with find3_with"),
+    ("", "pub fn", "find_with find1_with find2_with find3_with pass"),
+    ("impl UpToTwo<ItemIndex>", "impl", "UpToTwo"),
+    ("impl UpToThree<ItemIndex>", "impl", "UpToThree"),
     // What speaks of the numbers of slots, for the text of `Sorted`.
     ("pub trait SlotMap", "type", "Places Found Taken"),
     (
@@ -42,6 +44,8 @@ const REWORDED: &[(&str, &str)] = &[
     ("After steps by `next_data` the contract says…", ""),
     ("After a guard of `next_mut` the number is exact too…", ""),
     ("It is a parameter for the proof alone…", ""),
+    ("The checker asks for a measure of this loop…", ""),
+    ("It asks for none of a loop that begins…", ""),
     ("Where a key is a field beside the data, `Prim.search rules` proves…", ""),
     ("Where the key is a field beside the data, `Prim.search rules` proves…", ""),
     ("`Prim.search rules` proves the laws of all three…", ""),

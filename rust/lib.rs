@@ -86,18 +86,20 @@ pub mod sorted {
 /// | Word | What it says |
 /// |---|---|
 /// | `ensures granted { .. }` | a clause, with its name |
-/// | `x.now`; `x.old`, `x.new` | the value of a borrowed `x`; with `&mut`, at the begin and at the end of the call |
+/// | `x.now`; `x.old`, `x.new` | what a reference `x` shows; what a `&mut` shows before and after the call |
 /// | `self`, `result` | the map, or what the function belongs to; what it returns |
-/// | `bag map.now` | the list of the map's items, in no order; `items` in an ordered map, in the order of the keys |
+/// | `bag map.now` | the list of the map's items, in no order; `items` of an ordered map, in the order of the keys |
 /// | `IsPermutation a b` | the lists have the same items: `IsPermutation (bag self.new) (item ∷ bag self.old)` says that one item was inserted |
-/// | `a ∷ b`, `[]`, `a ++ b` | a list with `a` before `b`; the empty list; one list behind another |
-/// | `IfOk`, `IfErr`, `IfSome`; `OnOk`, `OnErr` | if the result is that, the rest holds for its value; if it is that, the rest holds |
-/// | `has1 .. key`, `IsOnly p bag x` | the test whether an item has this first key; `x` is the only item that passes, or `None` |
-/// | `conflicts_of .. bag x` | the items with a key of `x` |
-/// | `IsSound` | no two items have an equal key of the same rank; the rank of the first key is the first |
-/// | `T.key1`, `S.hash`, `T.put` | what the traits of `T` and `S` give: an item's first key, a hash, an item with other data |
+/// | `a ∷ b`, `[]` | the list `b` with `a` before it; the empty list |
+/// | `IfOk`, `IfErr`, `IfSome` | if a result is `Ok(v)`, what follows holds for `v`; likewise for an error and for an `Option` |
+/// | `OnOk`, `OnErr` | if a result is `Ok`, or an error, what follows holds |
+/// | `has1 .. q` | the test whether an item has the first key that the query `q` stands for |
+/// | `IsOnly p bag x` | `x` is the only item that passes the test `p`, or `None` |
+/// | `IsSound`, `T.ranks` | no two items have an equal key of the same rank; the comparisons of the keys, rank by rank: the first key has the first rank |
+/// | `conflicts_of .. bag x` | the items that have a key of `x` |
+/// | `T.key1`, `T.put` | what a trait gives: an item's first key; the item with other data |
 /// | `capacity`, `builder` | how many items fit; what makes the hashes |
-/// | `λ x. ..`, `→`, `×`, `≡` | a function of `x`; if, then; and; equal |
+/// | `λ x. ..`, `→`, `×`, `≡` | a function of `x`; if .. then; and; equal |
 ///
 /// All words stand in `docs/DEFINITIONS.md` and `docs/words.md` of the repository.
 pub mod contracts {}

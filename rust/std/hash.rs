@@ -11,7 +11,7 @@ pub type DefaultHashBuilder = RandomState;
 #[cfg(not(feature = "std"))]
 pub enum DefaultHashBuilder {}
 
-/// `FoldHasher` of Rattle's std, rewritten in Rust.
+/// A fast hasher with a fixed seed, which does not protect against keys that are chosen to have equal hashes.
 #[derive(Debug)]
 pub struct FoldHasher(u64);
 
