@@ -44,25 +44,34 @@ const CALLS: &[Calls] = &[
     sorted("> Sorted<TriHashMap<T", &[("BiHashOrdMap", "TriHashOrdMap")]),
 ];
 
-/// The example for a call, as docs on the function's line. The first line of the examples stands before each that has no map of its own.
-fn example(name: &str, calls: &Calls) -> Option<String> {
+/// The example for a call, as docs on the function's line. The first line of the examples stands before each that has no map of its own, and
+/// what an example uses before that.
+fn example(name: &str, writes: bool, calls: &Calls) -> Option<String> {
     let examples = calls.changes.iter().fold(calls.examples.to_string(), |text, (old, new)| text.replace(old, new));
     let (_, example) = examples.split_once(&format!("\n[{name}]\n"))?;
-    let example: String = example.lines().take_while(|it| !it.starts_with('[')).map(|it| format!("{it}\n")).collect();
-    let has_map = example.starts_with("let map") || example.contains("\nlet map");
-    let first = examples.split_inclusive('\n').next().filter(|_| !has_map).unwrap_or_default();
+    let lines: Vec<&str> = example.lines().take_while(|it| !it.starts_with('[')).collect();
+    let (uses, rest) = lines.split_at(lines.iter().take_while(|it| it.starts_with("use ")).count());
+    let map = examples.lines().next().filter(|_| !rest.iter().any(|it| it.starts_with("let map"))).unwrap_or_default();
+    let map = if writes { map.to_string() } else { map.replacen("let mut ", "let ", 1) };
     let main = "# fn main() -> Result<(), Box<dyn std::error::Error>> {";
-    Some(format!("#[doc = {:?}] ", format!("\n```\n{}\n{main}\n{first}{example}# Ok(())\n# }}\n```", calls.head)))
+    let mut all = vec!["", "```", calls.head];
+    all.extend(uses);
+    all.extend([main, &map].into_iter().filter(|it| !it.is_empty()));
+    all.extend(rest);
+    all.extend(["# Ok(())", "# }", "```"]);
+    Some(format!("#[doc = {:?}] ", all.join("\n")))
 }
 
 /// Returns the text with an example before each call. Each line keeps its number.
 pub fn shown(text: &str, own: &str) -> String {
     let Some(calls) = CALLS.iter().find(|it| it.own == own && text.contains(it.mark)) else { return text.to_string() };
     let mut lines: Vec<String> = text.split('\n').map(str::to_string).collect();
-    for line in &mut lines {
-        let function = line.strip_prefix("    ").map(|it| it.trim_start_matches("#[inline] ")).and_then(|it| it.strip_prefix("pub fn "));
-        if let Some(found) = function.and_then(|it| it.split(['(', '<']).next()).and_then(|name| example(name, calls)) {
-            line.insert_str(4, &found);
+    for at in 0..lines.len() {
+        let function = lines[at].strip_prefix("    ").map(|it| it.trim_start_matches("#[inline] ")).and_then(|it| it.strip_prefix("pub fn "));
+        let Some(name) = function.and_then(|it| it.split(['(', '<']).next()) else { continue };
+        let writes = lines[at..].iter().find(|it| it.contains("self")).is_some_and(|it| it.contains("&mut self"));
+        if let Some(found) = example(name, writes, calls) {
+            lines[at].insert_str(4, &found);
         }
     }
     lines.join("\n")
