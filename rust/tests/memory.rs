@@ -235,8 +235,11 @@ fn refused_in_turn<M: Kind>(is_good: bool) {
     assert_eq!(BYTES.get(), before, "{}: bytes that nobody frees", M::NAME);
 }
 
+/// Inserts an item, or returns it.
+type Insert<M> = fn(&mut M, Item) -> Option<Item>;
+
 /// Calls of the maps without a sort key.
-fn written<M: Kind + Written>(vacant: &[(&'static str, fn(&mut M, Item) -> Option<Item>)]) {
+fn written<M: Kind + Written>(vacant: &[(&'static str, Insert<M>)]) {
     let mut told = Told::new();
     for count in COUNTS {
         let new = ([2 * count / 3 * 2 + 1; 3], 5);

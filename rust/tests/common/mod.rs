@@ -1,5 +1,6 @@
 //! What the tests share: random numbers, the calls of a map counted by name, hashers, items, and a plain list to compare a map with.
-#![allow(dead_code, unused_imports, unused_macros)]
+// Each test uses a part of it. A guard is dropped where the map is used again.
+#![allow(dead_code, unused_imports, unused_macros, clippy::drop_non_drop, clippy::redundant_closure_call)]
 pub mod calls;
 pub mod item;
 pub mod list;

@@ -16,18 +16,30 @@ pub fn ends(map: &mut Map, list: &mut List, n: u64) {
         2 => assert_eq!(call!(map.pop_first()).map(|it| it.shown()), (!list.items.is_empty()).then(|| list.take(0))),
         3 => assert_eq!(call!(map.pop_last()).map(|it| it.shown()), list.items.pop()),
         4 => {
-            call!(map.first_mut()).map(|mut it| *it.data_mut() = data);
-            list.items.first_mut().map(|it| it.1 = data);
+            if let Some(mut it) = call!(map.first_mut()) {
+                *it.data_mut() = data;
+            }
+            if let Some(it) = list.items.first_mut() {
+                it.1 = data;
+            }
         }
         5 => {
-            call!(map.last_mut()).map(|mut it| *it.data_mut() = data);
-            list.items.last_mut().map(|it| it.1 = data);
+            if let Some(mut it) = call!(map.last_mut()) {
+                *it.data_mut() = data;
+            }
+            if let Some(it) = list.items.last_mut() {
+                it.1 = data;
+            }
         }
         6 => {
             let entry = call!(map.first_entry());
             assert_eq!(entry.as_ref().map(|it| it.get().shown()), list.items.first().copied());
-            entry.map(|mut it| *it.data_mut() = data);
-            list.items.first_mut().map(|it| it.1 = data);
+            if let Some(mut it) = entry {
+                *it.data_mut() = data;
+            }
+            if let Some(it) = list.items.first_mut() {
+                it.1 = data;
+            }
         }
         _ => {
             let entry = call!(map.last_entry());

@@ -142,7 +142,7 @@ pub fn collect<M: Table>(map: &mut M, list: &mut List, n: u64) {
             }
         }
     } else {
-        *map = if way == 0 { M::of(items) } else { M::try_of(items).ok().expect("there is memory") };
+        *map = if way == 0 { M::of(items) } else { M::try_of(items).expect("there is memory") };
         for item in told {
             made.overwrite(item);
         }
