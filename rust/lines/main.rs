@@ -19,8 +19,9 @@ mod test_calls_shared;
 mod test_calls_sorted;
 mod test_calls_tri;
 
-use facetweave::DefaultHashBuilder;
+use facetweave::FoldHasher;
 use std::fs::File;
+use std::hash::BuildHasherDefault;
 use std::io::{BufRead, BufReader, Write};
 use std::process::ExitCode;
 use test_calls_shared::answer::shown;
@@ -47,7 +48,7 @@ fn chosen(kind: &str, builder: &str, tells: bool) -> bool {
         "own" => of_kind::<Own>(kind, tells),
         "zero" => of_kind::<Alike>(kind, tells),
         "max" => of_kind::<Largest>(kind, tells),
-        "default" => of_kind::<DefaultHashBuilder>(kind, tells),
+        "default" => of_kind::<BuildHasherDefault<FoldHasher>>(kind, tells),
         "none" if kind == "ord" => run::<test_calls_ord::Called>(tells),
         _ => false,
     }
