@@ -94,6 +94,17 @@ from_array! {
     IdOrdMap IdOrdItem;
 }
 
+#[cfg(feature = "std")]
+impl<M: iddqd_store::SlotMap<Builder = crate::DefaultHashBuilder>, const N: usize> From<[M::Item; N]> for iddqd_sorted::Sorted<M>
+where
+    M::Item: iddqd_sorted::Sortable,
+    M::FirstKey: Ord,
+{
+    fn from(items: [M::Item; N]) -> Self {
+        crate::rattle::must(Self::try_from_iter(items))
+    }
+}
+
 // The data of each item, to be written.
 macro_rules! data_mut {
     ($($map:ident $item:ident;)*) => {
