@@ -58,7 +58,7 @@ const IMPLS: &[(&str, &str)] = &[
     ),
     ("impl LendsPair<String, u32, 1> for Release {", "struct Release { name: String, number: u32 }"),
     ("impl MakesKey<1> for Header {", "struct Header { bits: u16 }"),
-    ("impl MakesKey<1> for Reading {", "let reading = Reading { seconds: 300, value: 7 };"),
+    ("impl MakesKey<1> for Reading {", "let reading = Reading { seconds: 300, value: 7 };\n# #[derive(Debug)]"),
     ("impl OrdQuery<u64> for Clock {", "use std::cmp::Ordering;"),
     ("impl Sortable for Session {", "struct Session { seen: u64 }"),
 ];
