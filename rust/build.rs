@@ -10,8 +10,10 @@ mod examples;
 
 use erase::CRATES;
 
-/// What stands before the module of each crate. The calls of clippy.toml are refused there.
-const MODULE: &str = "#[allow(dead_code, unused_imports, unused_variables, clippy::all)]\n#[deny(clippy::disallowed_methods)]\n";
+/// What stands before the module of each crate. The calls of clippy.toml are refused there, and those that Rust has only since a later version than the
+/// manifest names.
+const MODULE: &str =
+    "#[allow(dead_code, unused_imports, unused_variables, clippy::all)]\n#[deny(clippy::disallowed_methods, clippy::incompatible_msrv)]\n";
 
 fn stop(message: String) -> ! {
     eprintln!("error: {message}");

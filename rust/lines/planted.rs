@@ -75,3 +75,7 @@ fn of_iterators(mut list: Vec<u8>) {
     let (low, high): (Vec<u8>, Vec<u8>) = low.into_iter().zip(high).unzip();
     core::mem::forget((low, high));
 }
+
+fn of_a_later_version(mut list: Vec<u8>) {
+    list.pop_if(|it| *it == 1);
+}
