@@ -59,7 +59,10 @@ impl<T: IdOrdItem> IdOrdMap<T> {
         ensures gives { result ≡ items self }
         ensures countable { length (items self) < 2 ^ 64 }
     {
-        let IdOrdMap { items, key_types: _ } = self;
+        let IdOrdMap {
+            items,
+            key_types: _,
+        } = self;
         items.into_iter()
     }
 }

@@ -16,5 +16,5 @@ returns-in_err-extend-clause-refused g c =
     at_err c.from_residual.result c.in_err-extend.field-0.0 _ (search rules)
     (GivesThen-weaker g.I.IntoIterator.into_iter_gives g.I.IntoIter.Iterator.next_gives c.args.iter x _ _
     (λ xs made. subst (λ (l : List g.row.M-Item.Denot). conflicts_of ranks l x ≡ [])
-    (made ∙ ap (λ (l : List g.row.M-Item.Denot). fold (overwritten ranks by) l xs) c.new-map.ensures.empty) failed.full.free)
+    (made ∙ ap (λ (l : List g.row.M-Item.Denot). fold (overwritten ranks by) l xs) c.default-map.ensures.empty) failed.full.free)
     failed.refused)
