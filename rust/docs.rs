@@ -22,10 +22,10 @@ const HIDDEN: &[(&str, &str, &str)] = &[
     ),
 ];
 
-/// Whether the docs do not show what a line of a file begins.
-fn is_hidden(line: &str, text: &str) -> bool {
+/// Whether the docs do not show what a line begins, by the rows of `HIDDEN` for its file.
+fn is_hidden(line: &str, rows: &[&(&str, &str, &str)]) -> bool {
     let code = line.split("] ").last().unwrap_or(line).trim_start();
-    HIDDEN.iter().filter(|it| text.contains(it.0)).any(|(_, kind, names)| {
+    rows.iter().any(|(_, kind, names)| {
         let name = code.strip_prefix(kind).and_then(|it| it.strip_prefix(' '));
         let name = name.and_then(|it| it.split(|c: char| c != '_' && !c.is_alphanumeric()).next());
         name.is_some_and(|name| names.split(' ').any(|it| it == name))
@@ -131,8 +131,9 @@ pub fn readable(text: &str, applied: &mut Applied) -> String {
         }
         in_code ^= is_fence;
     }
+    let rows: Vec<_> = HIDDEN.iter().filter(|it| text.contains(it.0)).collect();
     for line in &mut lines {
-        if is_hidden(line, text) {
+        if is_hidden(line, &rows) {
             line.insert_str(line.len() - line.trim_start().len(), "#[doc(hidden)] ");
         }
     }
