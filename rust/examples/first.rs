@@ -1,4 +1,4 @@
-//! Devices by serial number and by port: the first program of README.
+//! Devices, each found by its serial number and by its port.
 use facetweave::{BiHashMap, Row2};
 
 fn main() -> Result<(), Box<dyn std::error::Error>> {
