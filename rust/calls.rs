@@ -1,4 +1,5 @@
-//! The examples of the maps' calls, which the docs show and `cargo test` runs: a file of `calls/` has them for a map, each below the call's name.
+//! The examples of the maps' calls and of the traits of items, which the docs show and `cargo test` runs: a file of `calls/` has them for a
+//! map, each below the call's name, and one has those of the traits.
 
 /// The examples of a map's calls.
 struct Calls {
@@ -19,6 +20,8 @@ const fn calls(own: &'static str, mark: &'static str, head: &'static str, exampl
 const fn sorted(mark: &'static str, changes: &'static [(&'static str, &'static str)]) -> Calls {
     Calls { own: "iddqd_sorted", mark, head: JOBS, examples: include_str!("calls/sorted.txt"), changes }
 }
+
+const ITEMS: &str = include_str!("calls/items.txt");
 
 const JOBS: &str = "# include!(concat!(env!(\"CARGO_MANIFEST_DIR\"), \"/rust/tests/common/job.rs\"));
 // Jobs by their ids, names and seats, in the order of their times: `job(id, name, time)`.";
@@ -44,12 +47,17 @@ const CALLS: &[Calls] = &[
     sorted("> Sorted<TriHashMap<T", &[("BiHashOrdMap", "TriHashOrdMap")]),
 ];
 
+/// The lines below a name in brackets, until the next one.
+fn below<'a>(examples: &'a str, name: &str) -> Option<Vec<&'a str>> {
+    let (_, example) = examples.split_once(&format!("\n[{name}]\n"))?;
+    Some(example.lines().take_while(|it| !it.starts_with('[')).collect())
+}
+
 /// The example for a call, as docs on the function's line. The first line of the examples stands before each that has no map of its own, and
 /// what an example uses before that.
 fn example(name: &str, writes: bool, calls: &Calls) -> Option<String> {
     let examples = calls.changes.iter().fold(calls.examples.to_string(), |text, (old, new)| text.replace(old, new));
-    let (_, example) = examples.split_once(&format!("\n[{name}]\n"))?;
-    let lines: Vec<&str> = example.lines().take_while(|it| !it.starts_with('[')).collect();
+    let lines = below(&examples, name)?;
     let (uses, rest) = lines.split_at(lines.iter().take_while(|it| it.starts_with("use ")).count());
     let map = examples.lines().next().filter(|_| !rest.iter().any(|it| it.starts_with("let map"))).unwrap_or_default();
     let map = if writes { map.to_string() } else { map.replacen("let mut ", "let ", 1) };
@@ -62,10 +70,16 @@ fn example(name: &str, writes: bool, calls: &Calls) -> Option<String> {
     Some(format!("#[doc = {:?}] ", all.join("\n")))
 }
 
-/// Returns the text with an example before each call. Each line keeps its number.
+/// Returns the text with an example before each call and each trait of items. Each line keeps its number.
 pub fn shown(text: &str, own: &str) -> String {
-    let Some(calls) = CALLS.iter().find(|it| it.own == own && text.contains(it.mark)) else { return text.to_string() };
     let mut lines: Vec<String> = text.split('\n').map(str::to_string).collect();
+    for line in &mut lines {
+        let name = line.rsplit_once("pub trait ").and_then(|it| it.1.strip_suffix(" {"));
+        if let Some(found) = name.and_then(|it| below(ITEMS, it)) {
+            line.insert_str(0, &format!("#[doc = {:?}] ", format!("\n```\n{}\n```", found.join("\n"))));
+        }
+    }
+    let Some(calls) = CALLS.iter().find(|it| it.own == own && text.contains(it.mark)) else { return lines.join("\n") };
     for at in 0..lines.len() {
         let function = lines[at].strip_prefix("    ").map(|it| it.trim_start_matches("#[inline] ")).and_then(|it| it.strip_prefix("pub fn "));
         let Some(name) = function.and_then(|it| it.split(['(', '<']).next()) else { continue };

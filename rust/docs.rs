@@ -137,5 +137,7 @@ pub fn readable(text: &str, applied: &mut Applied) -> String {
             line.insert_str(line.len() - line.trim_start().len(), "#[doc(hidden)] ");
         }
     }
-    lines.join("\n").replace("</summary>\\n\\n```text", "</summary>\\n\\n[How to read this](crate::contracts)\\n\\n```text")
+    let text = lines.join("\n").replace("</summary>\\n\\n```text", "</summary>\\n\\n[How to read this](crate::contracts)\\n\\n```text");
+    // The contract of a trait's function stands before it, since it has no body: whoever implements the trait keeps it.
+    text.replace(" #[doc = \"\\n<details><summary>Proved: ", " #[doc = \"\\n<details><summary>Laws: ")
 }

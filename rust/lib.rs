@@ -17,15 +17,24 @@ pub mod iddqd;
 #[deny(clippy::disallowed_methods)]
 mod traits;
 
+#[doc(inline)]
 pub use bi_hash_map::{BiHashItem, BiHashItemMut, BiHashMap};
+#[doc(inline)]
 pub use errors::{AllocError, DuplicateItem, FromIterError, InsertReason, MemoryRefused, TryReserveError};
+#[doc(inline)]
 pub use id_hash_map::{IdHashItem, IdHashItemMut, IdHashMap};
+#[doc(inline)]
 pub use id_ord_map::{IdOrdItem, IdOrdItemMut, IdOrdMap};
+#[doc(inline)]
 pub use iddqd_store::{Difference, Equivalent, ItemPair, Query, Row1, Row2, Row3};
 #[cfg(feature = "std")]
+#[doc(inline)]
 pub use rattle::hash::DefaultHashBuilder;
+#[doc(inline)]
 pub use rattle::hash::FoldHasher;
+#[doc(inline)]
 pub use sorted::{BiHashOrdMap, IdHashOrdMap, Sortable, Sorted, TriHashOrdMap};
+#[doc(inline)]
 pub use tri_hash_map::{TriHashItem, TriHashItemMut, TriHashMap};
 
 /// [`IdHashMap`]: items with one hashed key.
