@@ -59,7 +59,7 @@ const ALIASES: &[(&str, &str)] = &[
     ("update_all", "values_mut"),
     ("rekey1 rekey2 rekey3", "rekey change_key"),
     ("iter", "keys values"),
-    ("pop", "drain"),
+    ("pop pop_first", "drain"),
     ("extract_from", "drain extract_if"),
     ("entry", "get_or_insert_with or_default"),
     ("from_iter_unique", "try_collect"),
