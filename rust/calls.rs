@@ -1,5 +1,5 @@
-//! The examples of the maps' calls and of the traits of items, which the docs show and `cargo test` runs: a file of `calls/` has them for a
-//! map, each below the call's name, and one has those of the traits.
+//! The examples of the maps, of their calls and of the traits of items, which the docs show and `cargo test` runs: a file of `calls/` has
+//! those of a map's calls, each below the call's name, and one has those of types and traits.
 
 /// The examples of a map's calls.
 struct Calls {
@@ -70,11 +70,12 @@ fn example(name: &str, writes: bool, calls: &Calls) -> Option<String> {
     Some(format!("#[doc = {:?}] ", all.join("\n")))
 }
 
-/// Returns the text with an example before each call and each trait of items. Each line keeps its number.
+/// Returns the text with an example before each call, each map and each trait of items. Each line keeps its number.
 pub fn shown(text: &str, own: &str) -> String {
     let mut lines: Vec<String> = text.split('\n').map(str::to_string).collect();
     for line in &mut lines {
-        let name = line.rsplit_once("pub trait ").and_then(|it| it.1.strip_suffix(" {"));
+        let item = line.rsplit_once("pub trait ").or(line.rsplit_once("pub struct "));
+        let name = item.and_then(|it| it.1.split(|c: char| !c.is_alphanumeric()).next());
         if let Some(found) = name.and_then(|it| below(ITEMS, it)) {
             line.insert_str(0, &format!("#[doc = {:?}] ", format!("\n```\n{}\n```", found.join("\n"))));
         }

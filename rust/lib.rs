@@ -89,8 +89,9 @@ pub mod sorted {
 
 /// How to read what is folded below "Proved" and "Laws".
 ///
-/// Below a function stand its clauses: what holds when it returns (`ensures`), and what its caller has to see to (`requires`). Below a trait stand its
-/// laws, which its implementor has to keep. A checker has proved each clause from the text of the function and the laws; Rust checks neither.
+/// Below a function stand its clauses: what holds when it returns (`ensures`), and what its caller has to see to (`requires`). Below a trait and its
+/// functions stand its laws, which its implementor has to keep. A checker has proved each clause from the text of the function and the laws; Rust
+/// checks neither.
 ///
 /// | Word | What it says |
 /// |---|---|
