@@ -73,11 +73,9 @@ const ALIASES: &[(&str, &str)] = &[
 /// `ITEM` begin with in the text, and the text.
 const LENT: &[(&str, &str, &str, &str)] = &[
     ("iddqd_store", "item_set.rt", "", include_str!("lend/items.rs")),
-    ("iddqd_store", "lib.rt", "", include_str!("lend/store.rs")),
     ("iddqd_order", "block.rt", "", include_str!("lend/block.rs")),
     ("iddqd_order", "row.rt", "", include_str!("lend/row.rs")),
     ("iddqd_order", "blocks.rt", "", include_str!("lend/blocks.rs")),
-    ("iddqd_order", "lib.rt", "", include_str!("lend/order.rs")),
     ("iddqd_ord", "map.rt", "", include_str!("lend/ordered.rs")),
     ("iddqd_id", "map.rt", "IdHash", include_str!("lend/map.rs")),
     ("iddqd_bi", "map.rt", "BiHash", include_str!("lend/map.rs")),

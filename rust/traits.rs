@@ -111,10 +111,10 @@ macro_rules! data_mut {
         $(
             impl<'a, T: crate::$item, S: core::hash::BuildHasher> IntoIterator for &'a mut crate::$map<T, S> {
                 type Item = &'a mut T::Data;
-                type IntoIter = core::iter::Map<iddqd_store::ItemsMut<'a, T>, fn(&'a mut T) -> &'a mut T::Data>;
+                type IntoIter = core::iter::Map<<&'a mut iddqd_store::ItemSet<T> as IntoIterator>::IntoIter, fn(&'a mut T) -> &'a mut T::Data>;
 
                 fn into_iter(self) -> Self::IntoIter {
-                    self.lend_all().0.all_mut().map(T::data_mut)
+                    self.items_mut().into_iter().map(T::data_mut)
                 }
             }
         )*
@@ -129,10 +129,10 @@ data_mut! {
 
 impl<'a, T: crate::IdOrdItemMut> IntoIterator for &'a mut crate::IdOrdMap<T> {
     type Item = &'a mut T::Data;
-    type IntoIter = core::iter::Map<iddqd_order::EntriesMut<'a, T>, fn(&'a mut T) -> &'a mut T::Data>;
+    type IntoIter = core::iter::Map<<&'a mut iddqd_order::Blocks<T> as IntoIterator>::IntoIter, fn(&'a mut T) -> &'a mut T::Data>;
 
     fn into_iter(self) -> Self::IntoIter {
-        self.blocks_mut().all_mut().map(T::data_mut)
+        self.blocks_mut().into_iter().map(T::data_mut)
     }
 }
 

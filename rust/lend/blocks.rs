@@ -1,40 +1,22 @@
-// Plain Rust, in no proved text: it lends all entries for writing at once, and has a search whose closure sees the entries for as
-// long as the blocks are borrowed. It moves no entry.
+// Plain Rust, in no proved text: it lends the entries between two places for writing at once, and moves no entry.
 impl<E> Blocks<E> {
-    pub(crate) fn all_mut(&mut self) -> EntriesMut<'_, E> {
-        EntriesMut { left: self.count, entries: self.row.blocks_mut().iter_mut().flat_map(Block::entries_mut as EntriesOf<'_, E>) }
-    }
-
-    pub(crate) fn place_by<'a>(&'a self, mut compare: impl FnMut(&'a E) -> core::cmp::Ordering) -> Result<Place, Place> {
-        use core::cmp::Ordering;
-        let blocks = self.row.blocks();
-        let (mut low, mut high) = (0, blocks.len());
-        while low < high {
-            let middle = low + (high - low) / 2;
-            if compare(&blocks[middle].entries()[0]) == Ordering::Less { high = middle } else { low = middle + 1 }
+    pub(crate) fn range_mut(&mut self, from: Place, to: Place) -> EntriesMut<'_, E> {
+        let left = self.range(from, to).len();
+        let end = self.row.len().min(to.block + 1);
+        let behind = if to.block < end { self.row.len_at(to.block) - to.offset } else { 0 };
+        let mut entries = self.row.blocks_mut().get_mut(from.block..end).unwrap_or_default().iter_mut().flatten();
+        if 0 < from.offset {
+            entries.nth(from.offset - 1);
         }
-        if low == 0 {
-            return Err(Place { block: 0, offset: 0 });
+        if 0 < behind {
+            entries.nth_back(behind - 1);
         }
-        let block = low - 1;
-        let entries = blocks[block].entries();
-        let (mut low, mut high) = (0, entries.len());
-        while low < high {
-            let middle = low + (high - low) / 2;
-            match compare(&entries[middle]) {
-                Ordering::Equal => return Ok(Place { block, offset: middle }),
-                Ordering::Less => high = middle,
-                Ordering::Greater => low = middle + 1,
-            }
-        }
-        Err(Place { block, offset: low })
+        EntriesMut { entries, left }
     }
 }
 
-type EntriesOf<'a, E> = fn(&'a mut Block<E>) -> &'a mut [E];
-
 pub struct EntriesMut<'a, E> {
-    entries: core::iter::FlatMap<core::slice::IterMut<'a, Block<E>>, &'a mut [E], EntriesOf<'a, E>>,
+    entries: core::iter::Flatten<core::slice::IterMut<'a, Block<E>>>,
     left: usize,
 }
 
@@ -42,9 +24,8 @@ impl<'a, E> Iterator for EntriesMut<'a, E> {
     type Item = &'a mut E;
 
     fn next(&mut self) -> Option<&'a mut E> {
-        let entry = self.entries.next()?;
-        self.left -= 1;
-        Some(entry)
+        self.left = self.left.checked_sub(1)?;
+        self.entries.next()
     }
 
     fn size_hint(&self) -> (usize, Option<usize>) {
@@ -54,11 +35,21 @@ impl<'a, E> Iterator for EntriesMut<'a, E> {
 
 impl<E> DoubleEndedIterator for EntriesMut<'_, E> {
     fn next_back(&mut self) -> Option<Self::Item> {
-        let entry = self.entries.next_back()?;
-        self.left -= 1;
-        Some(entry)
+        self.left = self.left.checked_sub(1)?;
+        self.entries.next_back()
     }
 }
 
 impl<E> ExactSizeIterator for EntriesMut<'_, E> {}
 impl<E> core::iter::FusedIterator for EntriesMut<'_, E> {}
+
+// It gives the iterator a name outside of this file.
+impl<'a, E> IntoIterator for &'a mut Blocks<E> {
+    type Item = &'a mut E;
+    type IntoIter = EntriesMut<'a, E>;
+
+    fn into_iter(self) -> EntriesMut<'a, E> {
+        let (from, to) = (self.start(), self.end());
+        self.range_mut(from, to)
+    }
+}

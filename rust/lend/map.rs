@@ -1,6 +1,6 @@
-// Plain Rust, in no proved text: it lends the items and the builder at once.
+// Plain Rust, in no proved text: it lends the items for writing.
 impl<T: ITEM, S: BuildHasher> MAP<T, S> {
-    pub(crate) fn lend_all(&mut self) -> (&mut ItemSet<T>, &S) {
-        (&mut self.items, &self.hash_builder)
+    pub(crate) fn items_mut(&mut self) -> &mut ItemSet<T> {
+        &mut self.items
     }
 }

@@ -84,7 +84,7 @@ where
     ensures reads { IfOk result (λ map. ReadsMap F.gives (length (items map)) from.old from.new) }
     ensures builder { IfOk result (λ map. M.Builder.is_default map.builder) }
 {
-    let mut map = Sorted::<M>::new(alloc);
+    let mut map = Sorted::<M>::default(alloc);
     fill(&mut map, alloc, from, &mut Meter::new(), &mut Meter::new())?;
     Ok(map)
 }
@@ -138,7 +138,7 @@ where
     ensures reads { IfOk result (λ map. ReadsMap F.gives (length (items map)) from.old from.new) }
     ensures builder { IfOk result (λ map. M.Builder.is_default map.builder) }
 {
-    let mut map = Sorted::<M>::new(alloc);
+    let mut map = Sorted::<M>::default(alloc);
     fill_owned(&mut map, alloc, from, &mut Meter::new(), &mut Meter::new())?;
     Ok(map)
 }

@@ -75,7 +75,7 @@ where
     ensures reads { IfOk result (λ map. ReadsSeq F.gives F.stays (length (items map)) from.old from.new) }
     ensures builder { IfOk result (λ map. M.Builder.is_default map.builder) }
 {
-    let mut map = Sorted::<M>::new(alloc);
+    let mut map = Sorted::<M>::default(alloc);
     fill(&mut map, alloc, from, &mut Meter::new())?;
     Ok(map)
 }
@@ -122,7 +122,7 @@ where
     ensures reads { IfOk result (λ map. ReadsSeq F.gives F.stays (length (items map)) from.old from.new) }
     ensures builder { IfOk result (λ map. M.Builder.is_default map.builder) }
 {
-    let mut map = Sorted::<M>::new(alloc);
+    let mut map = Sorted::<M>::default(alloc);
     fill_owned(&mut map, alloc, from, &mut Meter::new())?;
     Ok(map)
 }
