@@ -1,6 +1,6 @@
 //! Prints figures as text, and as tables for a page.
 use crate::measure::{Figures, Plan, measure};
-use crate::operations::Operation;
+use crate::operations::{Operation, PROVED};
 use std::fs::read_to_string;
 use std::time::{SystemTime, UNIX_EPOCH};
 
@@ -36,15 +36,9 @@ pub fn map_name(keys: usize) -> &'static str {
     }
 }
 
-/// Returns how many keys a map has, in words.
-fn keys(number: usize) -> String {
-    format!("{number} key{}", if number == 1 { "" } else { "s" })
-}
-
 /// The figures of one map, for each operation at each size.
 pub struct Map {
     name: &'static str,
-    keys: usize,
     /// The names of the other sides, from the side 1 on.
     others: Vec<&'static str>,
     rows: Vec<(&'static str, Vec<Figures>)>,
@@ -61,7 +55,6 @@ pub fn measured<const N: usize>(
     let others = operations[0].others.iter();
     Map {
         name,
-        keys: N,
         others: others.map(|(name, _)| *name).collect(),
         rows: names.zip(measure(operations, sizes, plan)).collect(),
     }
@@ -129,7 +122,7 @@ impl Map {
             }
             println!();
         };
-        print!("{:<wide$}{:>7}", format!("{}:", keys(self.keys)), "");
+        print!("{:<wide$}{:>7}", format!("{}:", self.name), "");
         for side in sides {
             let head = format!("beside {}", self.others[side - 1]);
             print!("{head:>width$}", width = COLUMN * sizes.len());
@@ -153,13 +146,13 @@ impl Map {
         println!();
     }
 
-    /// Returns the rows with a ratio above 1.2 at some size, each with the highest of these ratios and its size.
-    fn above(&self, sizes: &[usize], side: usize) -> String {
+    /// Returns the rows with a ratio above a limit at some size, each with the highest of these ratios and its size.
+    fn above(&self, limit: f64, sizes: &[usize], side: usize) -> String {
         let named = self.rows.iter().filter_map(|(name, figures)| {
             let ratios = figures.iter().zip(sizes);
             let ratios = ratios.filter_map(|(it, items)| Some((it.ratio(side)?.median, items)));
             let (highest, items) = ratios.max_by(|a, b| a.0.total_cmp(&b.0))?;
-            (highest > 1.2).then(|| format!("{name} ({highest:.2} at {})", grouped(*items)))
+            (highest > limit).then(|| format!("{name} ({highest:.2} at {})", grouped(*items)))
         });
         named.collect::<Vec<String>>().join("; ")
     }
@@ -198,13 +191,21 @@ pub fn print_table(maps: &[Map], sizes: &[usize], together: bool) {
         }
     }
     println!("```\n");
-    for map in maps.iter().filter(|_| !together) {
-        if let Some(at) = map.others.iter().position(|name| *name == "crate") {
-            let (keys, above) = (keys(map.keys), map.above(sizes, at + 1));
+    let all = maps
+        .iter()
+        .flat_map(|map| map.others.iter().zip(1..).map(move |it| (map, it)));
+    for (map, (name, side)) in all {
+        let limit = match *name {
+            "crate" if !together => 1.2,
+            PROVED => 1.15,
+            _ => continue,
+        };
+        let above = map.above(limit, sizes, side);
+        if !above.is_empty() {
             println!(
-                "With {keys} these rows are above 1.2 of the crate's at some size, here with their highest ratio:"
+                "`{}`, rows above {limit} of {name}, each with its highest ratio: {above}.\n",
+                map.name
             );
-            println!("{above}.\n");
         }
     }
 }
@@ -264,15 +265,15 @@ pub fn machine() -> String {
     )
 }
 
-/// Returns when, on what machine and how the figures were measured.
-pub fn circumstances(plan: Plan) -> String {
+/// Returns how the figures were measured, after what `machine` returned when that began.
+pub fn circumstances(began: &str, plan: Plan) -> String {
     let rounds = match plan.rounds {
         1 => "one round, in which".to_string(),
         rounds => format!("the medians of {rounds} rounds, in each of which"),
     };
     format!(
-        "{}: {rounds} the least of {} turns was taken (fewer above 10,000 items).",
-        machine(),
+        "{began}, {} when it ended: {rounds} the least of {} turns was taken (fewer above 10,000 items).",
+        load(),
         plan.turns,
     )
 }
