@@ -20,8 +20,8 @@
 //!     --ordered       times the ordered map beside a `BTreeMap`, and nothing else; with --memory, counts its bytes; with
 //!                     --others, times it with items of 128 bytes and with text keys
 //!     --sorted        times the maps with hashed keys and an order, and nothing else; with --memory, counts their bytes
-//!     --cargo         times all these maps as cargo builds them, which are `here` then, beside their proved build and std, and
-//!                     prints a table for each, of the rows of docs/SPEED.md; --beside takes `proved` too
+//!     --cargo         times the maps as cargo builds them, which are `here` then, beside their proved build and std, and prints
+//!                     the tables of docs/SPEED.md; of the maps with an order it has the one with two keys
 //!     --chosen        prints what keys with one home bucket cost under the default builder and a random seed
 mod by_hand;
 mod calls;
@@ -41,6 +41,7 @@ mod others;
 mod picture;
 mod processors;
 mod report;
+mod rows;
 mod sorted;
 mod workload;
 
@@ -50,52 +51,7 @@ extern crate cargo_loops as _;
 use measure::{Plan, print_once};
 use operations::{Kind, Operation};
 use report::{Map, map_name};
-
-/// The numbers of items. The load of a table of std is then 0.59, 0.87, 0.49, 0.85, 0.61, 0.61, 0.85, 0.87 and 0.76.
-const SIZES: [usize; 9] = [
-    600, 890, 1_000, 3_500, 10_000, 20_000, 28_000, 57_000, 100_000,
-];
-
-/// The sizes that docs/SPEED.md shows.
-const ON_PAGE: [usize; 6] = [600, 1_000, 3_500, 20_000, 57_000, 100_000];
-
-/// The rows that docs/SPEED.md shows for each map, and those that it shows for the map with two keys too.
-const OF_EACH: [&str; 10] = [
-    "insert without room",
-    "insert with room",
-    "look-up, hit",
-    "look-up, miss",
-    "removal",
-    "removal and insert",
-    "iter",
-    "retain half",
-    "clone",
-    "reserve, as many again, new process",
-];
-const OF_TWO: [&str; 22] = [
-    "insert without room, new process",
-    "insert, refused",
-    "look-up, hit, reserved",
-    "look-up, miss, reserved",
-    "look-up, waits for the last",
-    "get_unique",
-    "look-up and write",
-    "rekey1",
-    "overwrite, one a key",
-    "overwrite, same keys",
-    "or_insert, vacant",
-    "or_insert, occupied",
-    "for, by value",
-    "update_all",
-    "retain, 1 in 64 goes",
-    "pop_from, all",
-    "extract_from, half",
-    "clear",
-    "equality",
-    "shrink_to_fit, half went",
-    "reserve, as many again",
-    "extend_unique",
-];
+use rows::{OF_EACH, OF_TWO, OF_TWO_BY_CARGO, ON_PAGE, SIZES};
 
 /// The name of the ordered map.
 const ORDERED: &str = "IdOrdMap";
@@ -196,7 +152,12 @@ impl Wanted {
 
     /// Returns the operations of the hash map with N keys, or if the arguments ask for a page, those that the page shows.
     fn shown<const N: usize>(&self, mut all: Vec<Operation<N>>) -> Vec<Operation<N>> {
-        let shown = [&OF_EACH[..], if N == 2 { &OF_TWO } else { &[] }].concat();
+        let more: &[&str] = match () {
+            () if N != 2 => &[],
+            () if self.cargo => &OF_TWO_BY_CARGO,
+            () => &OF_TWO,
+        };
+        let shown = [&OF_EACH[..], more].concat();
         all.retain(|it| !(self.page || self.cargo) || shown.contains(&it.name));
         all
     }
@@ -236,7 +197,8 @@ impl Wanted {
         sizes: &[usize],
     ) -> Option<Map> {
         let picked = self.picked(all);
-        (!picked.is_empty()).then(|| report::measured(name, &picked, sizes, self.plan))
+        let is_some = !picked.is_empty() && !sizes.is_empty();
+        is_some.then(|| report::measured(name, &picked, sizes, self.plan))
     }
 
     /// Measures the maps.
@@ -262,7 +224,11 @@ impl Wanted {
             () if self.sorted => sorted(),
             () if self.others => vec![self.measured(map_name(2), others::operations(), sizes)],
             () if self.cargo => {
-                let kinds = [hashed(), ordered(ordered::operations()), sorted()];
+                // With more items these rows take minutes.
+                let mut fewer = sizes.to_vec();
+                fewer.retain(|items| *items <= 100_000);
+                let two = self.measured(sorted::NAMES[1], sorted::two(), &fewer);
+                let kinds = [hashed(), ordered(ordered::operations()), vec![two]];
                 kinds.into_iter().flatten().collect()
             }
             () => hashed(),
@@ -284,11 +250,11 @@ impl Wanted {
         let maps = self.maps(&sizes);
         println!("{}\n", report::circumstances(&began, self.plan));
         if self.growth {
-            maps.iter().for_each(|map| map.print_times(&sizes));
+            maps.iter().for_each(|map| map.print_times());
         } else if self.table || self.page || self.cargo {
-            report::print_table(&maps, &sizes, self.page || self.cargo);
+            report::print_table(&maps, self.page || self.cargo);
         } else {
-            maps.iter().for_each(|map| map.print_text(&sizes));
+            maps.iter().for_each(|map| map.print_text());
         }
     }
 }
