@@ -20,6 +20,8 @@
 //!     --ordered       times the ordered map beside a `BTreeMap`, and nothing else; with --memory, counts its bytes; with
 //!                     --others, times it with items of 128 bytes and with text keys
 //!     --sorted        times the maps with hashed keys and an order, and nothing else; with --memory, counts their bytes
+//!     --cargo         times the maps as cargo builds them, which are `here` then, beside their proved build and std, and prints
+//!                     the tables of docs/SPEED.md; of the maps with an order it has the one with two keys
 //!     --chosen        prints what keys with one home bucket cost under the default builder and a random seed
 mod by_hand;
 mod calls;
@@ -39,63 +41,23 @@ mod others;
 mod picture;
 mod processors;
 mod report;
+mod rows;
 mod sorted;
 mod workload;
+
+#[cfg(feature = "cargo")]
+extern crate cargo_loops as _;
 
 use measure::{Plan, print_once};
 use operations::{Kind, Operation};
 use report::{Map, map_name};
-
-/// The numbers of items. The load of a table of std is then 0.59, 0.87, 0.49, 0.85, 0.61, 0.61, 0.85, 0.87 and 0.76.
-const SIZES: [usize; 9] = [
-    600, 890, 1_000, 3_500, 10_000, 20_000, 28_000, 57_000, 100_000,
-];
-
-/// The sizes that docs/SPEED.md shows.
-const ON_PAGE: [usize; 6] = [600, 1_000, 3_500, 20_000, 57_000, 100_000];
-
-/// The rows that docs/SPEED.md shows for each map, and those that it shows for the map with two keys too.
-const OF_EACH: [&str; 10] = [
-    "insert without room",
-    "insert with room",
-    "look-up, hit",
-    "look-up, miss",
-    "removal",
-    "removal and insert",
-    "iter",
-    "retain half",
-    "clone",
-    "reserve, as many again, new process",
-];
-const OF_TWO: [&str; 22] = [
-    "insert without room, new process",
-    "insert, refused",
-    "look-up, hit, reserved",
-    "look-up, miss, reserved",
-    "look-up, waits for the last",
-    "get_unique",
-    "look-up and write",
-    "rekey1",
-    "overwrite, one a key",
-    "overwrite, same keys",
-    "or_insert, vacant",
-    "or_insert, occupied",
-    "for, by value",
-    "update_all",
-    "retain, 1 in 64 goes",
-    "pop_from, all",
-    "extract_from, half",
-    "clear",
-    "equality",
-    "shrink_to_fit, half went",
-    "reserve, as many again",
-    "extend_unique",
-];
+use rows::{OF_EACH, OF_TWO, OF_TWO_BY_CARGO, ON_PAGE, SIZES};
 
 /// The name of the ordered map.
 const ORDERED: &str = "IdOrdMap";
 
 /// What the arguments ask for.
+#[derive(Default)]
 struct Wanted {
     plan: Plan,
     sizes: Option<Vec<usize>>,
@@ -111,6 +73,7 @@ struct Wanted {
     others: bool,
     ordered: bool,
     sorted: bool,
+    cargo: bool,
     picture: Option<String>,
 }
 
@@ -134,27 +97,7 @@ fn size(word: &str) -> usize {
 }
 
 fn wanted(mut words: impl Iterator<Item = String>) -> Wanted {
-    let plan = Plan {
-        rounds: 3,
-        turns: 20,
-    };
-    let mut wanted = Wanted {
-        plan,
-        sizes: None,
-        keys: None,
-        beside: None,
-        word: String::new(),
-        without: None,
-        table: false,
-        page: false,
-        growth: false,
-        chosen: false,
-        memory: false,
-        others: false,
-        ordered: false,
-        sorted: false,
-        picture: None,
-    };
+    let mut wanted = Wanted::default();
     while let Some(word) = words.next() {
         match &word[..] {
             "--rounds" => wanted.plan.rounds = number(&behind(&mut words, &word)).max(1),
@@ -176,6 +119,7 @@ fn wanted(mut words: impl Iterator<Item = String>) -> Wanted {
             "--others" => wanted.others = true,
             "--ordered" => wanted.ordered = true,
             "--sorted" => wanted.sorted = true,
+            "--cargo" => wanted.cargo = true,
             "--svg" => wanted.picture = Some(behind(&mut words, &word)),
             _ if word.starts_with(|c: char| c.is_ascii_digit()) => {
                 wanted.sizes = Some(word.split(',').map(size).collect());
@@ -206,9 +150,24 @@ impl Wanted {
         self.sizes.clone().unwrap_or(default.to_vec())
     }
 
-    /// Returns whether the page shows a row of the map with so many keys, or the arguments do not ask for the page.
-    fn shows(&self, name: &str, keys: usize) -> bool {
-        !self.page || OF_EACH.contains(&name) || keys == 2 && OF_TWO.contains(&name)
+    /// Returns the operations of the hash map with N keys, or if the arguments ask for a page, those that the page shows.
+    fn shown<const N: usize>(&self, mut all: Vec<Operation<N>>) -> Vec<Operation<N>> {
+        let more: &[&str] = match () {
+            () if N != 2 => &[],
+            () if self.cargo => &OF_TWO_BY_CARGO,
+            () => &OF_TWO,
+        };
+        let shown = [&OF_EACH[..], more].concat();
+        all.retain(|it| !(self.page || self.cargo) || shown.contains(&it.name));
+        all
+    }
+
+    /// Returns whether the arguments ask for another side.
+    fn is_beside(&self, name: &str) -> bool {
+        match &self.beside {
+            Some(asked) => asked.iter().any(|it| it == name),
+            None => !self.cargo || [operations::PROVED, "std"].contains(&name),
+        }
     }
 
     /// Returns the operations of the map with N keys that the arguments ask for.
@@ -218,21 +177,14 @@ impl Wanted {
             let is_kind = match it.kind {
                 Kind::Held => false,
                 Kind::All => true,
-                Kind::Each | Kind::Anew | Kind::Own => !self.growth,
+                Kind::Anew => !self.growth && !self.cargo,
+                Kind::Each | Kind::Own => !self.growth,
             };
-            is_kind
-                && self.has_map(N)
-                && self.has(it.name)
-                && (self.others || self.ordered || self.shows(it.name, N))
+            is_kind && self.has_map(N) && self.has(it.name)
         });
         for operation in &mut picked {
-            operation.others.retain(|(name, _)| {
-                let asked = self
-                    .beside
-                    .as_ref()
-                    .is_none_or(|asked| asked.iter().any(|it| it == name));
-                asked && !self.growth
-            });
+            let others = &mut operation.others;
+            others.retain(|(name, _)| self.is_beside(name) && !self.growth);
         }
         picked
     }
@@ -245,32 +197,41 @@ impl Wanted {
         sizes: &[usize],
     ) -> Option<Map> {
         let picked = self.picked(all);
-        (!picked.is_empty()).then(|| report::measured(name, &picked, sizes, self.plan))
+        let is_some = !picked.is_empty() && !sizes.is_empty();
+        is_some.then(|| report::measured(name, &picked, sizes, self.plan))
     }
 
     /// Measures the maps.
     fn maps(&self, sizes: &[usize]) -> Vec<Map> {
-        let all = if self.ordered {
-            let operations = if self.others {
-                ordered_others::operations()
-            } else {
-                ordered::operations()
-            };
-            vec![self.measured(ORDERED, operations, sizes)]
-        } else if self.sorted {
+        let hashed = || {
+            vec![
+                self.measured(map_name(1), self.shown(operations::one()), sizes),
+                self.measured(map_name(2), self.shown(operations::two()), sizes),
+                self.measured(map_name(3), self.shown(operations::three()), sizes),
+            ]
+        };
+        let ordered = |operations| vec![self.measured(ORDERED, operations, sizes)];
+        let sorted = || {
             vec![
                 self.measured(sorted::NAMES[0], sorted::one(), sizes),
                 self.measured(sorted::NAMES[1], sorted::two(), sizes),
                 self.measured(sorted::NAMES[2], sorted::three(), sizes),
             ]
-        } else if self.others {
-            vec![self.measured(map_name(2), others::operations(), sizes)]
-        } else {
-            vec![
-                self.measured(map_name(1), operations::one(), sizes),
-                self.measured(map_name(2), operations::two(), sizes),
-                self.measured(map_name(3), operations::three(), sizes),
-            ]
+        };
+        let all = match () {
+            () if self.ordered && self.others => ordered(ordered_others::operations()),
+            () if self.ordered => ordered(ordered::operations()),
+            () if self.sorted => sorted(),
+            () if self.others => vec![self.measured(map_name(2), others::operations(), sizes)],
+            () if self.cargo => {
+                // With more items these rows take minutes.
+                let mut fewer = sizes.to_vec();
+                fewer.retain(|items| *items <= 100_000);
+                let two = self.measured(sorted::NAMES[1], sorted::two(), &fewer);
+                let kinds = [hashed(), ordered(ordered::operations()), vec![two]];
+                kinds.into_iter().flatten().collect()
+            }
+            () => hashed(),
         };
         all.into_iter().flatten().collect()
     }
@@ -281,17 +242,19 @@ impl Wanted {
             () if self.growth => &[1_000, 10_000, 100_000, 1_000_000],
             () if self.page => &ON_PAGE,
             () if self.ordered && self.others => &ordered_others::SIZES,
-            () if self.ordered => &ordered::SIZES,
+            () if self.ordered || self.cargo => &ordered::SIZES,
             () if self.sorted => &sorted::SIZES,
             () => &SIZES,
         });
+        let began = report::machine();
         let maps = self.maps(&sizes);
+        println!("{}\n", report::circumstances(&began, self.plan));
         if self.growth {
-            maps.iter().for_each(|map| map.print_times(&sizes));
-        } else if self.table || self.page {
-            report::print_table(&maps, &sizes, self.page);
+            maps.iter().for_each(|map| map.print_times());
+        } else if self.table || self.page || self.cargo {
+            report::print_table(&maps, self.page || self.cargo);
         } else {
-            maps.iter().for_each(|map| map.print_text(&sizes));
+            maps.iter().for_each(|map| map.print_text());
         }
     }
 }
@@ -394,6 +357,9 @@ fn main() {
         chosen::print();
         return;
     }
-    println!("{}\n", report::circumstances(wanted.plan));
+    assert!(
+        wanted.cargo == cfg!(feature = "cargo") && !(wanted.cargo && wanted.others),
+        "--cargo needs the program that bench/run and bench/beside build for it, which has no loops of --others"
+    );
     wanted.print();
 }

@@ -13,6 +13,15 @@ pub struct Plan {
     pub turns: usize,
 }
 
+impl Default for Plan {
+    fn default() -> Plan {
+        Plan {
+            rounds: 3,
+            turns: 20,
+        }
+    }
+}
+
 impl Plan {
     fn turns(&self, items: usize) -> usize {
         let part = match items {
@@ -90,7 +99,7 @@ unsafe extern "C" {
 }
 
 /// Returns the nanoseconds that this thread has run. What a processor does for other work meanwhile does not count.
-pub fn ran() -> u64 {
+pub extern "C" fn ran() -> u64 {
     const OF_THIS_THREAD: i32 = 3;
     let mut time = Time([0; 2]);
     // SAFETY: the call writes one time.

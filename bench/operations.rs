@@ -3,6 +3,7 @@
 use crate::by_hand::ByHand;
 use crate::calls::Map;
 use crate::loops;
+use crate::measure::ran;
 use crate::one_by_hand::OneByHand;
 use crate::workload::*;
 
@@ -19,8 +20,8 @@ pub struct Load<const N: usize> {
     number: usize,
     room: usize,
     whole: bool,
-    /// The handle of the clock has no bytes.
-    clock: *const (),
+    /// What tells the time. For the library it is a handle without bytes, and the loops that cargo builds call it.
+    clock: extern "C" fn() -> u64,
 }
 
 /// A loop of the library, which returns a sum of what it met. If it is not to do the whole, it does only what prepares
@@ -41,7 +42,7 @@ impl<const N: usize> Workload<N> {
             number: self.number,
             room: self.room,
             whole,
-            clock: &(),
+            clock: ran,
         };
         unsafe { exported(&load) }
     }
@@ -84,9 +85,9 @@ pub fn hash(key: u64) -> u64 {
 
 /// Declares the exported loop whose name has these two parts, over rows with this many keys.
 macro_rules! exported {
-    ($map:literal, $name:ident, $keys:literal) => {{
+    ($($part:literal)*, $name:ident, $keys:literal) => {{
         unsafe extern "C" {
-            #[link_name = concat!($map, "_", stringify!($name))]
+            #[link_name = concat!($($part,)* "_", stringify!($name))]
             fn exported(load: &$crate::operations::Load<$keys>) -> u64;
         }
         exported
@@ -94,24 +95,49 @@ macro_rules! exported {
 }
 pub(crate) use exported;
 
+/// The loop of the maps here, and the other sides of it, which are this one and, if cargo built the maps here, their proved build.
+#[cfg(not(feature = "cargo"))]
+macro_rules! sides {
+    ($other:expr; $map:literal, $name:ident, $keys:literal) => {
+        (
+            $crate::operations::exported!($map, $name, $keys),
+            vec![$other],
+        )
+    };
+}
+#[cfg(feature = "cargo")]
+macro_rules! sides {
+    ($other:expr; $map:literal, $name:ident, $keys:literal) => {{
+        let proved = |load: &Workload<$keys>, whole| {
+            load.run($crate::operations::exported!($map, $name, $keys), whole)
+        };
+        let proved = Some(proved as $crate::operations::Loop<$keys>);
+        let here = $crate::operations::exported!("cargo_" $map, $name, $keys);
+        (here, vec![($crate::operations::PROVED, proved), $other])
+    }};
+}
+pub(crate) use sides;
+
+/// What the side of the proved build is called.
+pub const PROVED: &str = "proved";
+
 /// Makes an operation on maps with this many keys, or nothing at one key if it is an operation on several keys.
 macro_rules! operation {
     (1, $map:literal, $kind:ident $name:literal: $load:expr, $loop:ident several) => {
         None
     };
     ($keys:literal, $map:literal, $kind:ident $name:literal: $load:expr, $loop:ident $($several:ident)?) => {
-        Some(Operation {
-            name: $name,
-            kind: Kind::$kind,
-            load: $load,
-            exported: exported!($map, $loop, $keys),
-            others: {
-                let has = !M::LACKS.contains(&$name);
-                vec![(
-                    M::NAME,
-                    has.then_some(loops::$loop::<$keys, M> as Loop<$keys>),
-                )]
-            },
+        Some({
+            let has = !M::LACKS.contains(&$name);
+            let other = has.then_some(loops::$loop::<$keys, M> as Loop<$keys>);
+            let (exported, others) = sides!((M::NAME, other); $map, $loop, $keys);
+            Operation {
+                name: $name,
+                kind: Kind::$kind,
+                load: $load,
+                exported,
+                others,
+            }
         })
     };
 }
@@ -185,13 +211,13 @@ operations! {
     All "extend_unique, last refused": spoiled, extend_unique;
 }
 
-/// Returns the operations, with the loops over one more map.
+/// Returns the operations, with the loops over one more map, which is the last of the other sides.
 fn with<const N: usize>(
     mut operations: Vec<Operation<N>>,
     more: Vec<Operation<N>>,
 ) -> Vec<Operation<N>> {
     for (operation, more) in operations.iter_mut().zip(more) {
-        operation.others.extend(more.others);
+        operation.others.extend(more.others.last());
     }
     operations
 }

@@ -3,7 +3,7 @@
 use crate::calls::{sum_of, told};
 use crate::loops::{asked, each_map};
 use crate::measure::ran;
-use crate::operations::{Kind, Operation, exported};
+use crate::operations::{Kind, Loop, Operation, sides};
 use crate::workload::{Row, Workload};
 use crate::workload::{
     asked_again, exchanged, fresh, grown, missed, reordered, repeated, rows, shuffled,
@@ -234,12 +234,15 @@ macro_rules! operations {
     ($($kind:ident $name:literal: $load:expr, $loop:ident;)*) => {
         /// All of them.
         pub fn operations() -> Vec<Operation<1>> {
-            vec![$(Operation {
-                name: $name,
-                kind: Kind::$kind,
-                load: $load,
-                exported: exported!("ord", $loop, 1),
-                others: vec![("std", Some($loop))],
+            vec![$({
+                let (exported, others) = sides!(("std", Some($loop as Loop<1>)); "ord", $loop, 1);
+                Operation {
+                    name: $name,
+                    kind: Kind::$kind,
+                    load: $load,
+                    exported,
+                    others,
+                }
             }),*]
         }
     };

@@ -1,6 +1,6 @@
 //! Prints figures as text, and as tables for a page.
 use crate::measure::{Figures, Plan, measure};
-use crate::operations::Operation;
+use crate::operations::{Operation, PROVED};
 use std::fs::read_to_string;
 use std::time::{SystemTime, UNIX_EPOCH};
 
@@ -36,17 +36,12 @@ pub fn map_name(keys: usize) -> &'static str {
     }
 }
 
-/// Returns how many keys a map has, in words.
-fn keys(number: usize) -> String {
-    format!("{number} key{}", if number == 1 { "" } else { "s" })
-}
-
 /// The figures of one map, for each operation at each size.
 pub struct Map {
     name: &'static str,
-    keys: usize,
     /// The names of the other sides, from the side 1 on.
     others: Vec<&'static str>,
+    sizes: Vec<usize>,
     rows: Vec<(&'static str, Vec<Figures>)>,
 }
 
@@ -61,8 +56,8 @@ pub fn measured<const N: usize>(
     let others = operations[0].others.iter();
     Map {
         name,
-        keys: N,
         others: others.map(|(name, _)| *name).collect(),
+        sizes: sizes.to_vec(),
         rows: names.zip(measure(operations, sizes, plan)).collect(),
     }
 }
@@ -86,8 +81,8 @@ fn place_of_time(sizes: &[usize]) -> usize {
 
 impl Map {
     /// Prints the times of all sides and their ratios at each size, for a terminal.
-    pub fn print_text(&self, sizes: &[usize]) {
-        for (at, items) in sizes.iter().enumerate() {
+    pub fn print_text(&self) {
+        for (at, items) in self.sizes.iter().enumerate() {
             let title = format!("{}, {} items", self.name, grouped(*items));
             print!("{title:<36}{:>9}", "here ns");
             for name in &self.others {
@@ -116,35 +111,35 @@ impl Map {
     }
 
     /// Prints a row for each operation: its time here at one size, and for each of these sides its ratio at each size.
-    fn print(&self, sizes: &[usize], sides: &[usize]) {
+    fn print(&self, sides: &[usize]) {
         const COLUMN: usize = 8;
         let wide = self.rows.iter().map(|(name, _)| name.len()).max();
         let wide = wide.unwrap_or_default().max(28);
         let line = |first: &str, time: &str, cell: &dyn Fn(usize, usize) -> String| {
             print!("{first:<wide$}{time:>7}");
             for side in sides {
-                for at in 0..sizes.len() {
+                for at in 0..self.sizes.len() {
                     print!("{:>COLUMN$}", cell(*side, at));
                 }
             }
             println!();
         };
-        print!("{:<wide$}{:>7}", format!("{}:", keys(self.keys)), "");
+        print!("{:<wide$}{:>7}", format!("{}:", self.name), "");
         for side in sides {
             let head = format!("beside {}", self.others[side - 1]);
-            print!("{head:>width$}", width = COLUMN * sizes.len());
+            print!("{head:>width$}", width = COLUMN * self.sizes.len());
         }
         println!();
-        line("", "ns", &|_, at| grouped(sizes[at]));
+        line("", "ns", &|_, at| grouped(self.sizes[at]));
         for (name, figures) in &self.rows {
-            let time = nanoseconds(figures[place_of_time(sizes)].time(0));
+            let time = nanoseconds(figures[place_of_time(&self.sizes)].time(0));
             line(name, &time, &|side, at| marked(&figures[at], side));
         }
     }
 
     /// Prints the times here at each size, as a table for a page.
-    pub fn print_times(&self, sizes: &[usize]) {
-        let heads = sizes.iter().map(|items| grouped(*items)).collect();
+    pub fn print_times(&self) {
+        let heads = self.sizes.iter().map(|items| grouped(*items)).collect();
         print_head(format!("`{}`, ns an item", self.name), heads);
         for (name, figures) in &self.rows {
             let cells = figures.iter().map(|figures| nanoseconds(figures.time(0)));
@@ -153,13 +148,13 @@ impl Map {
         println!();
     }
 
-    /// Returns the rows with a ratio above 1.2 at some size, each with the highest of these ratios and its size.
-    fn above(&self, sizes: &[usize], side: usize) -> String {
+    /// Returns the rows with a ratio above a limit at some size, each with the highest of these ratios and its size.
+    fn above(&self, limit: f64, side: usize) -> String {
         let named = self.rows.iter().filter_map(|(name, figures)| {
-            let ratios = figures.iter().zip(sizes);
+            let ratios = figures.iter().zip(&self.sizes);
             let ratios = ratios.filter_map(|(it, items)| Some((it.ratio(side)?.median, items)));
             let (highest, items) = ratios.max_by(|a, b| a.0.total_cmp(&b.0))?;
-            (highest > 1.2).then(|| format!("{name} ({highest:.2} at {})", grouped(*items)))
+            (highest > limit).then(|| format!("{name} ({highest:.2} at {})", grouped(*items)))
         });
         named.collect::<Vec<String>>().join("; ")
     }
@@ -179,7 +174,10 @@ pub fn print_head(first: String, others: Vec<String>) {
 
 /// Prints the ratios of the maps in the form of a page: a table for each map and each other side, or, if these are
 /// to be together, one for each map with its first two.
-pub fn print_table(maps: &[Map], sizes: &[usize], together: bool) {
+pub fn print_table(maps: &[Map], together: bool) {
+    let Some(sizes) = maps.first().map(|map| &map.sizes) else {
+        return;
+    };
     let at = grouped(sizes[place_of_time(sizes)]);
     println!("`ns`: here, at {at}. `~`: a round's ratio is over 1.5 times another's.");
     println!("`?`: lost in noise. `-`: no such call.\n\n```");
@@ -194,17 +192,25 @@ pub fn print_table(maps: &[Map], sizes: &[usize], together: bool) {
             if i + j > 0 {
                 println!();
             }
-            map.print(sizes, part);
+            map.print(part);
         }
     }
     println!("```\n");
-    for map in maps.iter().filter(|_| !together) {
-        if let Some(at) = map.others.iter().position(|name| *name == "crate") {
-            let (keys, above) = (keys(map.keys), map.above(sizes, at + 1));
+    let all = maps
+        .iter()
+        .flat_map(|map| map.others.iter().zip(1..).map(move |it| (map, it)));
+    for (map, (name, side)) in all {
+        let limit = match *name {
+            "crate" if !together => 1.2,
+            PROVED => 1.15,
+            _ => continue,
+        };
+        let above = map.above(limit, side);
+        if !above.is_empty() {
             println!(
-                "With {keys} these rows are above 1.2 of the crate's at some size, here with their highest ratio:"
+                "`{}`, rows above {limit} of {name}, each with its highest ratio: {above}.\n",
+                map.name
             );
-            println!("{above}.\n");
         }
     }
 }
@@ -264,15 +270,15 @@ pub fn machine() -> String {
     )
 }
 
-/// Returns when, on what machine and how the figures were measured.
-pub fn circumstances(plan: Plan) -> String {
+/// Returns how the figures were measured, after what `machine` returned when that began.
+pub fn circumstances(began: &str, plan: Plan) -> String {
     let rounds = match plan.rounds {
         1 => "one round, in which".to_string(),
         rounds => format!("the medians of {rounds} rounds, in each of which"),
     };
     format!(
-        "{}: {rounds} the least of {} turns was taken (fewer above 10,000 items).",
-        machine(),
+        "{began}, {} when it ended: {rounds} the least of {} turns was taken (fewer above 10,000 items).",
+        load(),
         plan.turns,
     )
 }

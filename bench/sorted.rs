@@ -5,7 +5,7 @@ use crate::by_hand::ByHand;
 use crate::calls::{Map, sum_of};
 use crate::loops::{asked, each_map};
 use crate::one_by_hand::OneByHand;
-use crate::operations::{Kind, Loop, Operation, exported};
+use crate::operations::{Kind, Loop, Operation, sides};
 use crate::workload::{Row, Workload, asked_again, fresh, grown, mix, reordered, shuffled};
 use std::collections::BTreeSet;
 
@@ -225,12 +225,16 @@ macro_rules! operations {
         pub fn $name() -> Vec<Operation<$keys>> {
             macro_rules! operation {
                 ($kind:ident $row:literal, $load:expr, $loop:ident) => {
-                    Operation {
-                        name: $row,
-                        kind: Kind::$kind,
-                        load: $load,
-                        exported: exported!($map, $loop, $keys),
-                        others: vec![("std", Some($loop::<$keys, $by_hand> as Loop<$keys>))],
+                    {
+                        let other = ("std", Some($loop::<$keys, $by_hand> as Loop<$keys>));
+                        let (exported, others) = sides!(other; $map, $loop, $keys);
+                        Operation {
+                            name: $row,
+                            kind: Kind::$kind,
+                            load: $load,
+                            exported,
+                            others,
+                        }
                     }
                 };
             }
