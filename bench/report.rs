@@ -112,14 +112,15 @@ impl Map {
 
     /// Prints a row for each operation: its time here at one size, and for each of these sides its ratio at each size.
     fn print(&self, sides: &[usize]) {
-        const COLUMN: usize = 8;
+        let widths = self.sizes.iter().map(|items| grouped(*items).len() + 1);
+        let column = widths.fold(8, usize::max);
         let wide = self.rows.iter().map(|(name, _)| name.len()).max();
         let wide = wide.unwrap_or_default().max(28);
         let line = |first: &str, time: &str, cell: &dyn Fn(usize, usize) -> String| {
             print!("{first:<wide$}{time:>7}");
             for side in sides {
                 for at in 0..self.sizes.len() {
-                    print!("{:>COLUMN$}", cell(*side, at));
+                    print!("{:>column$}", cell(*side, at));
                 }
             }
             println!();
@@ -127,7 +128,7 @@ impl Map {
         print!("{:<wide$}{:>7}", format!("{}:", self.name), "");
         for side in sides {
             let head = format!("beside {}", self.others[side - 1]);
-            print!("{head:>width$}", width = COLUMN * self.sizes.len());
+            print!("{head:>width$}", width = column * self.sizes.len());
         }
         println!();
         line("", "ns", &|_, at| grouped(self.sizes[at]));
