@@ -11,8 +11,8 @@ use Rattle.iddqd_order.specs.Search.{IsPartitionPoint, IsSearchable, IsSplit, Is
 use Rattle.iddqd_order.specs.Row.{line, block_at, start_of, IsRow}
 use Rattle.iddqd_order.proofs.LineLemmas.{length_parts, start_of-next, start_of-all, get_at_position}
 
--- of at most two more than a power of four, what is left of a quarter is at most two more than the power before
-pub quartered : (s k : ℕ) → 4 ≤ s → s ≤ 4 ^ k + 2 → (j : ℕ) × (k ≡ j + 1) × (s - 3 * ((s - 3) / 4 + 1) ≤ 4 ^ j + 2)
+-- of at most one more than twice a power of four, what is left of a quarter is at most one more than twice the power before
+pub quartered : (s k : ℕ) → 4 ≤ s → s ≤ 2 * 4 ^ k + 1 → (j : ℕ) × (k ≡ j + 1) × (s - 3 * ((s - 3) / 4 + 1) ≤ 2 * 4 ^ j + 1)
 quartered s zero some few = absurd (omega arith)
 quartered s (suc j) some few = (j, omega arith, omega (arith, pow-suc 4 j))
 
@@ -130,6 +130,15 @@ module _ {E : Type 0} (order : E → Ordering) where
         up.less k (i - 1) d (omega (arith, lt)) last less;
     equal = λ k d le lt. absurd (omega (arith, le, lt));
     above = λ k d le in_range. sym (read_at xs k d in_range) ∙ is_greater _ (point.above k (omega (arith, le)) in_range);
+  }
+
+  -- the end is the place of what is sought, if the last entry is lower
+  pub behind_lower : (xs : List E) → IsSearchable order xs → (i : ℕ) → i ≡ length xs → ((d : E) → order (get_or xs (length xs - 1) d) ≡ Less) → IsSplit order xs i 0
+  behind_lower xs up i end low = record {
+    in_range = omega (arith, end);
+    below = λ k d lt. up.less k (length xs - 1) d (omega (arith, lt, end)) (omega (arith, lt, end)) (low d);
+    equal = λ k d le lt. absurd (omega (arith, le, lt));
+    above = λ k d le lt. absurd (omega (arith, le, lt, end));
   }
 
   module _ (memory : ℕ) (row : List (List E)) (r : IsRow memory row) (up : IsSearchable order (line row)) where

@@ -42,6 +42,8 @@ pub struct Blocks<E> {
     kept: Block<E>,
     count: usize,
     capacity: usize,
+    // Whether the last insert went behind all entries, so that the next one may too. No result depends on it.
+    appends: bool,
 }
 
 impl<E> Model for Blocks<E> {
@@ -72,6 +74,7 @@ impl<E> Blocks<E> {
             kept: Block::none(alloc),
             count: 0,
             capacity: 0,
+            appends: true,
         }
     }
 
@@ -102,6 +105,7 @@ impl<E> Blocks<E> {
             kept,
             count: _,
             capacity: _,
+            appends: _,
         } = self;
         kept.free();
         row.free();
@@ -130,7 +134,7 @@ impl<E> Blocks<E> {
 
     /// Searches for what is sought. `Ok` has its place, and `Err` the place at which it would go.
     ///
-    /// Among fewer than `4 ^ r` entries it compares at most `3 * r + 19` times.
+    /// Among fewer than `4 ^ r` entries it compares at most `3 * r + 16` times.
     pub fn search<C: Compare<E>>(&self, sought: &C, meter: &mut Meter) -> Result<Place, Place>
         requires asks { All (C.MayAsk sought.now) (entries_in self.now) }
         requires ordered { IsSearchable (C.order sought.now) (entries_in self.now) }
@@ -139,8 +143,34 @@ impl<E> Blocks<E> {
         ensures place { IfErr result (IsPlace self.now.blocks) }
         ensures gap { IfErr result (λ p. IsSplit (C.order sought.now) (entries_in self.now) (position self.now.blocks p) 0) }
         ensures fits { length (entries_in self.now) ≤ self.now.capacity }
-        ensures asked { (r : ℕ) → length (entries_in self.now) < 4 ^ r → meter.new ≤ meter.old + (3 * r + 19) }
+        ensures asked { (r : ℕ) → length (entries_in self.now) < 4 ^ r → meter.new ≤ meter.old + (3 * r + 16) }
     {
+        search::search(&self.row, sought, meter)
+    }
+
+    /// Searches as `search` does, for a place to insert at: if the last insert went behind all entries, it first looks whether this
+    /// one does too.
+    ///
+    /// Among fewer than `4 ^ r` entries it compares at most `3 * r + 17` times.
+    pub fn search_last_first<C: Compare<E>>(
+        &self,
+        sought: &C,
+        meter: &mut Meter,
+    ) -> Result<Place, Place>
+        requires asks { All (C.MayAsk sought.now) (entries_in self.now) }
+        requires ordered { IsSearchable (C.order sought.now) (entries_in self.now) }
+        ensures entry { IfOk result (HasEntry self.now.blocks) }
+        ensures found { IfOk result (λ p. IsLastEqual (C.order sought.now) (entries_in self.now) (position self.now.blocks p)) }
+        ensures place { IfErr result (IsPlace self.now.blocks) }
+        ensures gap { IfErr result (λ p. IsSplit (C.order sought.now) (entries_in self.now) (position self.now.blocks p) 0) }
+        ensures fits { length (entries_in self.now) ≤ self.now.capacity }
+        ensures asked { (r : ℕ) → length (entries_in self.now) < 4 ^ r → meter.new ≤ meter.old + (3 * r + 17) }
+    {
+        if self.appends {
+            if let Some(place) = search::behind_last(&self.row, sought, meter) {
+                return Err(place);
+            }
+        }
         search::search(&self.row, sought, meter)
     }
 
@@ -178,6 +208,7 @@ impl<E> Blocks<E> {
         ensures entry { HasEntry self.new.blocks result }
         ensures at { position self.new.blocks result ≡ position self.old.blocks place }
     {
+        self.appends = is_end(&self.row, place);
         let place = splits::insert(
             &mut self.row,
             &mut self.kept,
@@ -203,6 +234,7 @@ impl<E> Blocks<E> {
         ensures entry { HasEntry self.new.blocks result }
         ensures at { position self.new.blocks result ≡ position self.old.blocks place }
     {
+        self.appends = is_end(&self.row, place);
         let place = splits::insert(
             &mut self.row,
             &mut self.kept,
@@ -287,6 +319,7 @@ impl<E> Blocks<E> {
             kept,
             count,
             capacity: _,
+            appends: _,
         } = self;
         kept.free();
         IntoIter::new(alloc, row.into_blocks(), count)
@@ -300,4 +333,14 @@ impl<E> Blocks<E> {
     {
         Iter::part(&self.row, self.count, from, to)
     }
+}
+
+/// Returns whether a place is behind all entries.
+#[inline(always)]
+fn is_end<E>(row: &BlockRow<E>, place: Place) -> bool {
+    let blocks = row.len();
+    if place.block < blocks {
+        return place.block == blocks - 1 && row.len_at(place.block) <= place.offset;
+    }
+    true
 }

@@ -1,5 +1,5 @@
 //! Searches in four parts, and how they compare entries.
-ghost use Rattle.std.specs.Prelude.{◌≡◌, ℕ, ◌+◌, ◌-◌, ◌*◌, ◌^◌, ◌<◌, ◌≤◌, length, true, false, All, slice_get, IfOk, IfErr};
+ghost use Rattle.std.specs.Prelude.{◌≡◌, ℕ, ◌+◌, ◌-◌, ◌*◌, ◌^◌, ◌<◌, ◌≤◌, length, true, false, All, slice_get, IfOk, IfErr, IfSome};
 ghost use Rattle.std.specs.Ordering.{is_gt};
 ghost use Rattle.std.specs.declared.cmp.Ordering.{Ordering};
 ghost use Rattle.iddqd_order.specs.Search.{IsPartitionPoint, IsSearchable, IsLastEqual, IsSplit, order_at};
@@ -119,7 +119,7 @@ fn partition_point<A: CompareAt>(compared: &A, len: usize, meter: &mut Meter) ->
     requires asks { (k : ℕ) → k < len → A.IsIn compared.now k }
     requires rises { (j k : ℕ) → j ≤ k → k < len → is_gt (A.at compared.now j) ≡ true → is_gt (A.at compared.now k) ≡ true }
     ensures point { IsPartitionPoint (A.at compared.now) len result }
-    ensures asked { (r : ℕ) → len ≤ 4 ^ r + 2 → meter.new ≤ meter.old + (3 * r + 3) }
+    ensures asked { (r : ℕ) → len ≤ 2 * 4 ^ r + 1 → meter.new ≤ meter.old + (3 * r + 3) }
 {
     let mut low = 0;
     let mut size = len;
@@ -149,7 +149,7 @@ pub(crate) fn search<E, C: Compare<E>>(
     ensures place { IfErr result (IsPlace row.now.blocks) }
     ensures gap { IfErr result (λ p. IsSplit (C.order sought.now) (line row.now.blocks) (position row.now.blocks p) 0) }
     ensures filled { IsRow row.now.memory row.now.blocks }
-    ensures asked { (r : ℕ) → length (line row.now.blocks) < 4 ^ r → meter.new ≤ meter.old + (3 * r + 19) }
+    ensures asked { (r : ℕ) → length (line row.now.blocks) < 4 ^ r → meter.new ≤ meter.old + (3 * r + 16) }
 {
     let blocks = row.len();
     if blocks == 0 {
@@ -170,4 +170,32 @@ pub(crate) fn search<E, C: Compare<E>>(
         }
     }
     Err(Place { block, offset })
+}
+
+/// Returns the place behind all entries, if the last entry is lower than what is sought. It compares once at most.
+#[inline(always)]
+pub(crate) fn behind_last<E, C: Compare<E>>(
+    row: &BlockRow<E>,
+    sought: &C,
+    meter: &mut Meter,
+) -> Option<Place>
+    requires asks { All (C.MayAsk sought.now) (line row.now.blocks) }
+    requires ordered { IsSearchable (C.order sought.now) (line row.now.blocks) }
+    ensures place { IfSome result (IsPlace row.now.blocks) }
+    ensures gap { IfSome result (λ p. IsSplit (C.order sought.now) (line row.now.blocks) (position row.now.blocks p) 0) }
+    ensures asked { meter.new ≤ meter.old + 1 }
+{
+    let blocks = row.len();
+    if blocks == 0 {
+        return None;
+    }
+    let entries = row.entries_of(blocks - 1);
+    let len = entries.len();
+    match sought.compare(&entries[len - 1], meter) {
+        Ordering::Less => Some(Place {
+            block: blocks - 1,
+            offset: len,
+        }),
+        _ => None,
+    }
 }

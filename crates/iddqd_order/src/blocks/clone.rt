@@ -38,6 +38,7 @@ impl<E: Clone> Blocks<E> {
             kept: Block::none(self.alloc),
             count: self.count,
             capacity: self.count,
+            appends: self.appends,
         })
     }
 }

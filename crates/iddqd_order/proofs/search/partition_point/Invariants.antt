@@ -9,7 +9,7 @@ invariant-loop-size g l =
       within : l.low + l.size ≤ l.len;
       below : (k : ℕ) → k < l.low → is_gt (at k) ≡ false;
       above : (k : ℕ) → l.low + l.size ≤ k → k < l.len → is_gt (at k) ≡ true;
-      asks : (r : ℕ) → l.len ≤ 4 ^ r + 2 → (j : ℕ) × (l.meter + 3 * j ≤ l.initial.meter + 3 * r) × (l.size ≤ 4 ^ j + 2);
+      asks : (r : ℕ) → l.len ≤ 2 * 4 ^ r + 1 → (j : ℕ) × (l.meter + 3 * j ≤ l.initial.meter + 3 * r) × (l.size ≤ 2 * 4 ^ j + 1);
     }
 
 abbrev pub decreases-loop-size : goal.decreases-loop-size

@@ -8,11 +8,11 @@ use Rattle.iddqd_order.proofs.SearchLemmas.{first_rises, block_rises, within, po
 use Rattle.iddqd_order.proofs.search.search.Goals as goal
 
 -- two searches for a partition point: among several blocks each has few entries, and one block costs what its entries do
-few_asked : (blocks entries all r m a b : ℕ) → ((s : ℕ) → blocks - 1 ≤ 4 ^ s + 2 → a ≤ m + (3 * s + 3)) → ((s : ℕ) → entries ≤ 4 ^ s + 2 → b ≤ a + (3 * s + 3))
-    → 0 < blocks → blocks ≤ all → entries ≤ all → (1 < blocks → entries ≤ 128) → all < 4 ^ r → b ≤ m + (3 * r + 18)
+few_asked : (blocks entries all r m a b : ℕ) → ((s : ℕ) → blocks - 1 ≤ 2 * 4 ^ s + 1 → a ≤ m + (3 * s + 3)) → ((s : ℕ) → entries ≤ 2 * 4 ^ s + 1 → b ≤ a + (3 * s + 3))
+    → 0 < blocks → blocks ≤ all → entries ≤ all → (1 < blocks → entries ≤ 128) → all < 4 ^ r → b ≤ m + (3 * r + 15)
 few_asked blocks entries all r m a b block offset some le within short few =
     elim (cases_lt 1 blocks) [
-      | inl many ↦ omega (arith, block r (omega arith), offset 4 (omega (arith, short many)))
+      | inl many ↦ omega (arith, block r (omega arith), offset 3 (omega (arith, short many)))
       | inr one ↦ omega (arith, block 0 (omega arith), offset r (omega arith))
     ]
 
