@@ -59,7 +59,7 @@ module _ {T : Type 0} (is_clone : T → T → Type 0) where
         by_slot None is here more = absurd (false≢true (rw is at here))
         by_slot (Some x) is here more = let (c, there, cloned) = clone_at slots copies e.slot x all is in rw (is, there) (cloned, more)
 
-    module _ {by : T → T → Ordering} (o : IsTotalOrder by) (sort : T → K) (es : List (Entry K)) (r : IsListed by sort slots es)
+    module _ {by : T → T → Ordering} (o : IsTotalOrder by) (sort : T → K) {cmp : K → K → Ordering} (es : List (Entry K)) (r : IsListed by sort cmp slots es)
         (level : (x c : T) → Contains (items_in slots es) x → is_clone x c → by x c ≡ Equal)
         (keyed : (x c : T) → Contains (items_in slots es) x → is_clone x c → sort c ≡ sort x) where
       cloned : AllZip is_clone (items_in slots es) (items_in copies es)
@@ -75,16 +75,17 @@ module _ {T : Type 0} (is_clone : T → T → Type 0) where
           by_slot None is here = absurd (false≢true (rw is at here))
           by_slot (Some x) is here = rw ((clone_at slots copies e.slot x all is).1) refl
 
-      still_keyed : (e : Entry K) → IsSome (item_in slots e) → ((x : T) → item_in slots e ≡ Some x → sort x ≡ e.sort_key) → (c : T) → item_in copies e ≡ Some c → sort c ≡ e.sort_key
-      still_keyed e live has c found = by_slot (item_in slots e) refl live
+      still_keyed : (e : Entry K) → IsSome (item_in slots e) → ((x : T) → item_in slots e ≡ Some x → (k : K) → cmp (sort x) k ≡ cmp e.sort_key k) → (c : T) → item_in copies e ≡ Some c
+          → (k : K) → cmp (sort c) k ≡ cmp e.sort_key k
+      still_keyed e live has c found k = by_slot (item_in slots e) refl live
         where
-          by_slot : (s : Option T) → item_in slots e ≡ s → IsSome (item_in slots e) → sort c ≡ e.sort_key
+          by_slot : (s : Option T) → item_in slots e ≡ s → IsSome (item_in slots e) → cmp (sort c) k ≡ cmp e.sort_key k
           by_slot None is here = absurd (false≢true (rw is at here))
           by_slot (Some x) is here =
               let (d, there, from) = clone_at slots copies e.slot x all is in
               let one : Some c ≡ Some d = sym found ∙ there in
               let same : c ≡ d = cc one in
-              ap sort same ∙ keyed x d (Contains-listed o sort slots es r e.slot x is) from ∙ has x is
+              ap (λ z. cmp z k) (ap sort same ∙ keyed x d (Contains-listed o sort slots es r e.slot x is) from) ∙ has x is k
 
       still_ascending : IsAscending by (items_in copies es)
       still_ascending i j d lt in_range =
@@ -96,7 +97,7 @@ module _ {T : Type 0} (is_clone : T → T → Type 0) where
           let second = level (get_or xs j d) (get_or cs j d) (Contains-get_or xs j d j_lt) (AllZip-get_or is_clone xs cs j d d cloned j_lt) in
           sym (o.congr (get_or xs i d) (get_or cs i d) (get_or cs j d) first) ∙ sym (alike_right o (get_or xs j d) (get_or cs j d) (get_or xs i d) second) ∙ r.ascending i j d lt j_lt
 
-      pub IsListed-cloned : IsListed by sort copies es
+      pub IsListed-cloned : IsListed by sort cmp copies es
       IsListed-cloned = record {
         live = λ i d lt. still_live (get_or es i d) (r.live i d lt);
         keyed = λ i d lt. still_keyed (get_or es i d) (r.live i d lt) (r.keyed i d lt);

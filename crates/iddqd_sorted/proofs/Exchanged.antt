@@ -39,7 +39,7 @@ set-twice [] i y z = refl
 set-twice (x ∷ xs) zero y z = refl
 set-twice {A} (x ∷ xs) (suc i) y z = ap (λ (q : List A). x ∷ q) (set-twice xs i y z)
 
-module _ {T K : Type 0} {by : T → T → Ordering} (o : IsTotalOrder by) (sort : T → K) (slots : List (Option T)) (es : List (Entry K)) (r : IsListed by sort slots es)
+module _ {T K : Type 0} {by : T → T → Ordering} (o : IsTotalOrder by) (sort : T → K) {cmp : K → K → Ordering} (slots : List (Option T)) (es : List (Entry K)) (r : IsListed by sort cmp slots es)
     (slot : ℕ) (x : T) (p : ℕ) (lt : p < length es) (at : (d : Entry K) → (get_or es p d).slot ≡ slot)
     (new : List (Option T)) (y : T) (updates : Updates slots new slot (Some y)) (many : length (contents new) ≡ length (contents slots)) where
   entry : Entry K
@@ -55,7 +55,7 @@ module _ {T K : Type 0} {by : T → T → Ordering} (o : IsTotalOrder by) (sort 
   fewer = omega (arith, many, length_permutation _ _ (contents-take new slot y updates.changed), length-contents slots, length-contents (set new slot None))
 
   -- the entries of the other slots
-  pub others_left : ListsOthers by sort new slot (remove es p)
+  pub others_left : ListsOthers by sort cmp new slot (remove es p)
   others_left = IsListed-removed o sort slots es r (set new slot None) p entry lt gone_here fewer
 
   pub others_items : items_in (set new slot None) (remove es p) ≡ remove (items_in slots es) p

@@ -21,10 +21,11 @@ use Rattle.iddqd_sorted.specs.declared.entry.Entry.{Entry}
 use Rattle.iddqd_sorted.specs.Entries.{IsListed, items_in}
 use Rattle.iddqd_sorted.proofs.Costs.{AreSearched-room}
 use Rattle.iddqd_sorted.proofs.Finding.{none-permutation, IsOnly-permutation, only_passes, remove-only, all_others}
+use Rattle.iddqd_sorted.proofs.Kept.{place, place_within, place_slot}
 use Rattle.iddqd_sorted.proofs.Listed.{long, IsPermutation-listed}
 use Rattle.iddqd_sorted.proofs.Settling.{item_at_slot, none_left, IsListed-taken, items-taken}
 
-module _ {T K : Type 0} {by : T → T → Ordering} (o : IsTotalOrder by) (sort : T → K) (slots : List (Option T)) (es : List (Entry K)) (r : IsListed by sort slots es) (test : T → Bool) where
+module _ {T K : Type 0} {by : T → T → Ordering} (o : IsTotalOrder by) (sort : T → K) {cmp : K → K → Ordering} (slots : List (Option T)) (es : List (Entry K)) (r : IsListed by sort cmp slots es) (test : T → Bool) where
   -- no item has the key
   pub only_none : FoundAt test slots None → IsOnly test (items_in slots es) None
   only_none found = IsOnly-permutation test _ _ (IsPermutation-listed o sort slots es r) None found.only
@@ -64,6 +65,15 @@ module _ {T K : Type 0} {by : T → T → Ordering} (o : IsTotalOrder by) (sort 
             let left = items-taken o sort slots es r slot x is p lt at bare updates ∙ others_some x is p lt at in
             let same : IsPermutation (contents bare) (filter (λ z. not (test z)) (items_in slots es)) = rw (← left) (IsPermutation-listed o sort bare (remove es p) listed) in
             (x, only_some x is, λ none. conflict (none-permutation (do_conflict ranks y) _ _ (IsPermutation-sym _ _ same) none))
+
+    -- the same, wherever the entry of the slot stands
+    pub blocked_found : (ranks : Ranks T) (y : T) → conflicts_of ranks (contents (set slots slot None)) y ≢ []
+        → (x : T) × IsOnly test (items_in slots es) (Some x) × (conflicts_of ranks (filter (λ z. not (test z)) (items_in slots es)) y ≢ [])
+    blocked_found ranks y conflict = by_slot (get slots slot) refl found.live
+      where
+        by_slot : (c : Option T) → get slots slot ≡ c → IsSome c → (x : T) × IsOnly test (items_in slots es) (Some x) × (conflicts_of ranks (filter (λ z. not (test z)) (items_in slots es)) y ≢ [])
+        by_slot None is live = absurd (cc live)
+        by_slot (Some x) is live = blocked (place o sort slots es r slot x is) (place_within o sort slots es r slot x is) (place_slot o sort slots es r slot x is) ranks y conflict
 
 module _ {T D : Type 0} (answers : T → D → Type 0) (put : T → D → T) (by : T → T → Ordering) (test : T → Bool) (old : List T) where
   -- what was stored in an item is what each function makes of it that agrees with the data

@@ -1,5 +1,6 @@
 pub mod Batches
 pub mod Callers
+pub mod Changed
 pub mod Cloning
 pub mod Costs
 pub mod Entries
@@ -7,6 +8,7 @@ pub mod Exchanged
 pub mod Extending
 pub mod Finding
 pub mod Flags
+pub mod Kept
 pub mod Keyed
 pub mod Listed
 pub mod Ordering

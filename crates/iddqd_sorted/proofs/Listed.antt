@@ -30,7 +30,7 @@ value_of None live = absurd (false≢true live)
 value_of (Some x) live = x
 
 -- an order of no entries
-pub IsListed-none : {T K : Type 0} (by : T → T → Ordering) (sort : T → K) (slots : List (Option T)) → contents slots ≡ [] → IsListed by sort slots []
+pub IsListed-none : {T K : Type 0} (by : T → T → Ordering) (sort : T → K) {cmp : K → K → Ordering} (slots : List (Option T)) → contents slots ≡ [] → IsListed by sort cmp slots []
 IsListed-none by sort slots none = record {
   live = λ i d lt. absurd (omega (arith, lt));
   keyed = λ i d lt. absurd (omega (arith, lt));
@@ -38,7 +38,7 @@ IsListed-none by sort slots none = record {
   ascending = λ i j d lt in_range. absurd (omega (arith, in_range));
 }
 
-module _ {T K : Type 0} {by : T → T → Ordering} (o : IsTotalOrder by) (sort : T → K) (slots : List (Option T)) (es : List (Entry K)) (r : IsListed by sort slots es) where
+module _ {T K : Type 0} {by : T → T → Ordering} (o : IsTotalOrder by) (sort : T → K) {cmp : K → K → Ordering} (slots : List (Option T)) (es : List (Entry K)) (r : IsListed by sort cmp slots es) where
   pub long : length (items_in slots es) ≡ length es
   long = length-items (item_in slots) es r.live
 
@@ -55,7 +55,7 @@ module _ {T K : Type 0} {by : T → T → Ordering} (o : IsTotalOrder by) (sort 
       let one : Some x ≡ Some (get_or (items_in slots es) i d) = sym found ∙ (ap (item_in slots) is ∙ item_at_index i e d lt) in
       cc one
 
-  pub key_at_index : (i : ℕ) (d : Entry K) (x : T) → i < length es → sort (get_or (items_in slots es) i x) ≡ (get_or es i d).sort_key
+  pub key_at_index : (i : ℕ) (d : Entry K) (x : T) → i < length es → (k : K) → cmp (sort (get_or (items_in slots es) i x)) k ≡ cmp (get_or es i d).sort_key k
   key_at_index i d x lt = r.keyed i d lt (get_or (items_in slots es) i x) (item_at_index i d x lt)
 
   -- no slot is listed twice
@@ -79,15 +79,15 @@ module _ {T K : Type 0} {by : T → T → Ordering} (o : IsTotalOrder by) (sort 
       items-insert (item_in new) es i e x live le updates.changed ∙ ap (λ (q : List T). insert q i x) (items-same (item_in slots) (item_in new) es kept)
 
   pub IsListed-inserted : (new : List (Option T)) (e : Entry K) (i : ℕ) (x : T) → get slots e.slot ≡ None → Updates slots new e.slot (Some x) → live_count new ≡ live_count slots + 1
-      → sort x ≡ e.sort_key → IsSplit (λ y. by y x) (items_in slots es) i 0 → IsListed by sort new (insert es i e)
+      → ((k : K) → cmp (sort x) k ≡ cmp e.sort_key k) → IsSplit (λ y. by y x) (items_in slots es) i 0 → IsListed by sort cmp new (insert es i e)
   IsListed-inserted new e i x free updates more keyed gap =
       let kept = items-kept new e.slot (Some x) free updates in
       let le : i ≤ length es = omega (arith, long, gap.in_range) in
       let len = length-insert es i e le in
       record {
         live = All-insert (λ e. IsSome (item_in new e)) es i e (λ j d lt. rw (kept j d lt) (r.live j d lt)) (rw updates.changed refl);
-        keyed = All-insert (λ e. (x : T) → item_in new e ≡ Some x → sort x ≡ e.sort_key) es i e (λ j d lt y found. r.keyed j d lt y (sym (kept j d lt) ∙ found))
-            (λ y found. let one : Some x ≡ Some y = sym updates.changed ∙ found in let same : y ≡ x = cc one in ap sort same ∙ keyed);
+        keyed = All-insert (λ e. (x : T) → item_in new e ≡ Some x → (k : K) → cmp (sort x) k ≡ cmp e.sort_key k) es i e (λ j d lt y found. r.keyed j d lt y (sym (kept j d lt) ∙ found))
+            (λ y found. let one : Some x ≡ Some y = sym updates.changed ∙ found in let same : y ≡ x = cc one in λ k. ap (λ z. cmp (sort z) k) same ∙ keyed k);
         counted = omega (arith, more, len, r.counted);
         ascending = rw (items-inserted new e i x free updates le) (ascending-insert o (items_in slots es) i x gap r.ascending);
       }
@@ -109,13 +109,13 @@ module _ {T K : Type 0} {by : T → T → Ordering} (o : IsTotalOrder by) (sort 
   pub items-removed : (new : List (Option T)) (i : ℕ) (d : Entry K) → i < length es → Updates slots new (get_or es i d).slot None → items_in new (remove es i) ≡ remove (items_in slots es) i
   items-removed new i d lt updates = items-same (item_in slots) (item_in new) (remove es i) (without new i d lt updates) ∙ items-remove (item_in slots) es i r.live lt
 
-  pub IsListed-removed : (new : List (Option T)) (i : ℕ) (d : Entry K) → i < length es → Updates slots new (get_or es i d).slot None → live_count new + 1 ≡ live_count slots → IsListed by sort new (remove es i)
+  pub IsListed-removed : (new : List (Option T)) (i : ℕ) (d : Entry K) → i < length es → Updates slots new (get_or es i d).slot None → live_count new + 1 ≡ live_count slots → IsListed by sort cmp new (remove es i)
   IsListed-removed new i d lt updates fewer =
       let len = length-remove es i lt in
       let kept = without new i d lt updates in
       record {
         live = λ j f in_range. rw (kept j f in_range) (All-remove (λ e. IsSome (item_in slots e)) es i r.live j f in_range);
-        keyed = λ j f in_range y found. All-remove (λ e. (x : T) → item_in slots e ≡ Some x → sort x ≡ e.sort_key) es i r.keyed j f in_range y (sym (kept j f in_range) ∙ found);
+        keyed = λ j f in_range y found. All-remove (λ e. (x : T) → item_in slots e ≡ Some x → (k : K) → cmp (sort x) k ≡ cmp e.sort_key k) es i r.keyed j f in_range y (sym (kept j f in_range) ∙ found);
         counted = omega (arith, fewer, len, r.counted);
         ascending = rw (items-removed new i d lt updates) (ascending-remove o (items_in slots es) i (omega (arith, long, lt)) r.ascending);
       }
@@ -149,7 +149,7 @@ module _ {T K : Type 0} where
           IsPermutation-trans _ _ _ out (IsPermutation-cons x _ _ (subst (λ (xs : List T). IsPermutation (contents left) xs) same rest)) in
           rw is all
 
-module _ {T K : Type 0} {by : T → T → Ordering} (o : IsTotalOrder by) (sort : T → K) (slots : List (Option T)) (es : List (Entry K)) (r : IsListed by sort slots es) where
+module _ {T K : Type 0} {by : T → T → Ordering} (o : IsTotalOrder by) (sort : T → K) {cmp : K → K → Ordering} (slots : List (Option T)) (es : List (Entry K)) (r : IsListed by sort cmp slots es) where
   -- the items that are listed are all items
   pub IsPermutation-listed : IsPermutation (contents slots) (items_in slots es)
   IsPermutation-listed = listed_once slots es r.live (apart o sort slots es r) r.counted

@@ -14,7 +14,7 @@ use Rattle.iddqd_sorted.proofs.Ordering.{searchable, IsSplit-gap, IsSplit-found,
 use Rattle.iddqd_sorted.proofs.Sorting.{total, IsRising-side}
 
 module _ {T K Key : Type 0} (sort : T → K) {cmp : K → K → Ordering} (sorts : IsTotalOrder cmp) (key : T → Key) {cmp_key : Key → Key → Ordering} (keys : IsTotalOrder cmp_key)
-    (slots : List (Option T)) (es : List (Entry K)) (r : IsListed (by_sort sort cmp key cmp_key) sort slots es) where
+    (slots : List (Option T)) (es : List (Entry K)) (r : IsListed (by_sort sort cmp key cmp_key) sort cmp slots es) where
   all : IsTotalOrder (by_sort sort cmp key cmp_key)
   all = total sort sorts key keys
 
@@ -30,7 +30,9 @@ module _ {T K Key : Type 0} (sort : T → K) {cmp : K → K → Ordering} (sorts
     alike : (i : ℕ) (d : Entry K) (y : T) → i < length es → compare (get_or es i d) ≡ by_sort sort cmp key cmp_key (get_or (items_in slots es) i y) x
     alike i d y lt =
         let here : get seen (get_or es i d).slot ≡ _ = same i d lt ∙ item_at_index all sort slots es r i d y lt in
-        λ t. ordering_then (cmp (sym (key_at_index all sort slots es r i d y lt) t) (sort_is t)) (order_at (λ z. cmp_key (key z) (key_is t)) (here t))
+        let level : cmp (get_or es i d).sort_key k ≡ cmp (sort (get_or (items_in slots es) i y)) (sort x) =
+        sym (key_at_index all sort slots es r i d y lt k) ∙ ap (cmp (sort (get_or (items_in slots es) i y))) sort_is in
+        λ t. ordering_then (level t) (order_at (λ z. cmp_key (key z) (key_is t)) (here t))
 
     -- an entry compares as its item
     pub item_compared : (i : ℕ) (e : Entry K) (y : T) → i < length es → e ≡ get_or es i e → compare e ≡ by_sort sort cmp key cmp_key (get_or (items_in slots es) i y) x
@@ -46,10 +48,32 @@ module _ {T K Key : Type 0} (sort : T → K) {cmp : K → K → Ordering} (sorts
     pub item_gap : (i : ℕ) → IsSplit compare es i 0 → IsSplit (λ y. by_sort sort cmp key cmp_key y x) (items_in slots es) i 0
     item_gap i gap = IsSplit-gap es (items_in slots es) as_many compare (λ y. by_sort sort cmp key cmp_key y x) alike i gap
 
+  -- such a search where the first keys in the slots compare as those of the items
+  module _ (x : T) (k : K) (sort_is : k ≡ sort x) (first : Key) (seen : List (Option T))
+      (compared : (i : ℕ) (d : Entry K) (y : T) → i < length es → order_at (λ z. cmp_key (key z) first) (get seen (get_or es i d).slot) ≡ cmp_key (key (get_or (items_in slots es) i y)) (key x)) where
+    abbrev compare_seen : Entry K → Ordering
+    compare_seen e = ordering_then (cmp e.sort_key k) (order_at (λ z. cmp_key (key z) first) (get seen e.slot))
+
+    alike_seen : (i : ℕ) (d : Entry K) (y : T) → i < length es → compare_seen (get_or es i d) ≡ by_sort sort cmp key cmp_key (get_or (items_in slots es) i y) x
+    alike_seen i d y lt =
+        let level : cmp (get_or es i d).sort_key k ≡ cmp (sort (get_or (items_in slots es) i y)) (sort x) =
+        sym (key_at_index all sort slots es r i d y lt k) ∙ ap (cmp (sort (get_or (items_in slots es) i y))) sort_is in
+        λ t. ordering_then (level t) (compared i d y lt t)
+
+    pub seen_searchable : IsSearchable compare_seen es
+    seen_searchable = searchable es (items_in slots es) as_many compare_seen (λ y. by_sort sort cmp key cmp_key y x) alike_seen r.ascending (IsRising-item all x)
+
+    pub seen_found : (i : ℕ) → IsLastEqual compare_seen es i → IsSplit (λ y. by_sort sort cmp key cmp_key y x) (items_in slots es) i 1
+    seen_found i found = IsSplit-found es (items_in slots es) as_many compare_seen (λ y. by_sort sort cmp key cmp_key y x) alike_seen r.ascending i found
+        (λ y z lt level. lower_too all y z x lt level) (λ y z lt level. higher_too all y z x lt level)
+
+    pub seen_gap : (i : ℕ) → IsSplit compare_seen es i 0 → IsSplit (λ y. by_sort sort cmp key cmp_key y x) (items_in slots es) i 0
+    seen_gap i gap = IsSplit-gap es (items_in slots es) as_many compare_seen (λ y. by_sort sort cmp key cmp_key y x) alike_seen i gap
+
   -- a search for a side of a sort key
   module _ (past : Bool) (k : K) where
     beside : (i : ℕ) (d : Entry K) (y : T) → i < length es → side_of past (cmp (get_or es i d).sort_key k) ≡ side_of past (cmp (sort (get_or (items_in slots es) i y)) k)
-    beside i d y lt = λ t. side_of past (cmp (sym (key_at_index all sort slots es r i d y lt) t) k)
+    beside i d y lt = ap (side_of past) (sym (key_at_index all sort slots es r i d y lt k))
 
     pub side_searchable : IsSearchable (λ e. side_of past (cmp e.sort_key k)) es
     side_searchable = searchable es (items_in slots es) as_many (λ e. side_of past (cmp e.sort_key k)) (λ y. side_of past (cmp (sort y) k)) beside r.ascending (IsRising-side sort sorts key keys past k)

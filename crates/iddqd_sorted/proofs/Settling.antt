@@ -52,7 +52,7 @@ module _ {T : Type 0} {by : T → T → Ordering} (o : IsTotalOrder by) where
       let none = none_pass (λ y. is_eq (by x y)) rest (IsDistinct-head (λ y z. is_eq (by y z)) x rest distinct) in
       passes_somewhere (λ y. is_eq (by x y)) rest x there.0 none there.1 (ap (λ y. is_eq (by x y)) there.2 ∙ ap is_eq (tied_itself o x))
 
-module _ {T K : Type 0} {by : T → T → Ordering} (o : IsTotalOrder by) (sort : T → K) (slots : List (Option T)) (es : List (Entry K)) (r : IsListed by sort slots es)
+module _ {T K : Type 0} {by : T → T → Ordering} (o : IsTotalOrder by) (sort : T → K) {cmp : K → K → Ordering} (slots : List (Option T)) (es : List (Entry K)) (r : IsListed by sort cmp slots es)
     (slot : ℕ) (x : T) (there : get slots slot ≡ Some x) where
   -- the entry of an item is that of its slot
   pub slot_at : (p : ℕ) (d : Entry K) → p < length es → get_or (items_in slots es) p x ≡ x → (get_or es p d).slot ≡ slot
@@ -80,8 +80,8 @@ none_left [] slot = refl
 none_left (s ∷ slots) zero = refl
 none_left (s ∷ slots) (suc i) = none_left slots i
 
-module _ {T K : Type 0} {by : T → T → Ordering} (o : IsTotalOrder by) (sort : T → K) (slots : List (Option T)) (slot : ℕ) (x : T) (there : get slots slot ≡ Some x)
-    (es : List (Entry K)) (r : ListsOthers by sort slots slot es) where
+module _ {T K : Type 0} {by : T → T → Ordering} (o : IsTotalOrder by) (sort : T → K) {cmp : K → K → Ordering} (slots : List (Option T)) (slot : ℕ) (x : T) (there : get slots slot ≡ Some x)
+    (es : List (Entry K)) (r : ListsOthers by sort cmp slots slot es) where
   -- the other entries lead to other slots
   pub seen : (j : ℕ) (d : Entry K) → j < length es → get slots (get_or es j d).slot ≡ get (set slots slot None) (get_or es j d).slot
   seen j d lt = (back slots slot x there).others (get_or es j d).slot
@@ -90,10 +90,10 @@ module _ {T K : Type 0} {by : T → T → Ordering} (o : IsTotalOrder by) (sort 
   pub live_seen : All (λ e. IsLive slots e.slot) es
   live_seen j d lt = rw (seen j d lt) (r.live j d lt)
 
-  -- the entry in the gap for it
-  pub settled : (k : K) → sort x ≡ k → (p : ℕ) → IsSplit (λ y. by y x) (items_in (set slots slot None) es) p 0
-      → Settles by sort slots slot es (insert es p (record { sort_key = k; slot = slot }))
-  settled k keyed p gap =
+  -- an entry in the gap for it
+  pub settled_level : (k : K) → ((q : K) → cmp (sort x) q ≡ cmp k q) → (p : ℕ) → IsSplit (λ y. by y x) (items_in (set slots slot None) es) p 0
+      → Settles by sort cmp slots slot es (insert es p (record { sort_key = k; slot = slot }))
+  settled_level k keyed p gap =
       let bare = set slots slot None in
       let e : Entry K = record { sort_key = k; slot = slot } in
       let le : p ≤ length es = omega (arith, gap.in_range, long o sort bare es r) in
@@ -104,9 +104,13 @@ module _ {T K : Type 0} {by : T → T → Ordering} (o : IsTotalOrder by) (sort 
         items = λ y is. let same : x ≡ y = cc (sym there ∙ is) in rw (← same) items;
       }
 
+  pub settled : (k : K) → sort x ≡ k → (p : ℕ) → IsSplit (λ y. by y x) (items_in (set slots slot None) es) p 0
+      → Settles by sort cmp slots slot es (insert es p (record { sort_key = k; slot = slot }))
+  settled k keyed p gap = settled_level k (λ q. ap (λ z. cmp z q) keyed) p gap
+
 -- a search among the other entries for an item that has these keys
 module _ {T K Key : Type 0} (sort : T → K) {cmp : K → K → Ordering} (sorts : IsTotalOrder cmp) (key : T → Key) {cmp_key : Key → Key → Ordering} (keys : IsTotalOrder cmp_key)
-    (slots : List (Option T)) (slot : ℕ) (x : T) (there : get slots slot ≡ Some x) (es : List (Entry K)) (r : ListsOthers (by_sort sort cmp key cmp_key) sort slots slot es)
+    (slots : List (Option T)) (slot : ℕ) (x : T) (there : get slots slot ≡ Some x) (es : List (Entry K)) (r : ListsOthers (by_sort sort cmp key cmp_key) sort cmp slots slot es)
     (now : List (Option T)) (now_is : now ≡ slots) (k : K) (sort_is : k ≡ sort x) (first : Key) (key_is : first ≡ key x) where
   abbrev compare : Entry K → Ordering
   compare e = ordering_then (cmp e.sort_key k) (order_at (λ z. cmp_key (key z) first) (get now e.slot))
@@ -123,7 +127,7 @@ module _ {T K Key : Type 0} (sort : T → K) {cmp : K → K → Ordering} (sorts
   pub other_gap : (p : ℕ) → IsSplit compare es p 0 → IsSplit (λ y. by_sort sort cmp key cmp_key y x) (items_in (set slots slot None) es) p 0
   other_gap = item_gap sort sorts key keys (set slots slot None) es r x k sort_is first key_is now same
 
-module _ {T K : Type 0} {by : T → T → Ordering} (o : IsTotalOrder by) (sort : T → K) (slots : List (Option T)) (es : List (Entry K)) (r : IsListed by sort slots es)
+module _ {T K : Type 0} {by : T → T → Ordering} (o : IsTotalOrder by) (sort : T → K) {cmp : K → K → Ordering} (slots : List (Option T)) (es : List (Entry K)) (r : IsListed by sort cmp slots es)
     (slot : ℕ) (x : T) (there : get slots slot ≡ Some x) (p : ℕ) (lt : p < length es) (at : (d : Entry K) → (get_or es p d).slot ≡ slot) where
   -- the item at the place of the entry of its slot
   pub item_at_slot : (d : T) → x ≡ get_or (items_in slots es) p d
@@ -139,7 +143,7 @@ module _ {T K : Type 0} {by : T → T → Ordering} (o : IsTotalOrder by) (sort 
   fewer new same = omega (arith, length_permutation _ _ same, length-contents slots, length-contents new)
 
   -- the order without that entry, where the item has left its slot
-  pub IsListed-taken : (new : List (Option T)) → Updates slots new slot None → IsPermutation (contents slots) (x ∷ contents new) → IsListed by sort new (remove es p)
+  pub IsListed-taken : (new : List (Option T)) → Updates slots new slot None → IsPermutation (contents slots) (x ∷ contents new) → IsListed by sort cmp new (remove es p)
   IsListed-taken new updates same =
       let e : Entry K = record { sort_key = sort x; slot = slot } in
       IsListed-removed o sort slots es r new p e lt (out new updates e) (fewer new same)

@@ -121,8 +121,8 @@ module _ {T : Type 0} where
       let there : Contains left y = content_at (set slots n None) k y (get_or-set_other slots n k None None (λ same. absurd (omega (arith, low, same))) ∙ at) in
       passes_somewhere (do_conflict ranks x) left y there.0 none there.1 (rw there.2 conflict)
 
-module _ {T K : Type 0} {by : T → T → Ordering} (o : IsTotalOrder by) (sort : T → K) (slots : List (Option T)) (n : ℕ) (es : List (Entry K)) (r : IsListed by sort (take n slots) es) where
-  skip : get slots n ≡ None → IsListed by sort (take (suc n) slots) es
+module _ {T K : Type 0} {by : T → T → Ordering} (o : IsTotalOrder by) (sort : T → K) {cmp : K → K → Ordering} (slots : List (Option T)) (n : ℕ) (es : List (Entry K)) (r : IsListed by sort cmp (take n slots) es) where
+  skip : get slots n ≡ None → IsListed by sort cmp (take (suc n) slots) es
   skip none =
       let same = skipped slots n none in
       let alike : items_in (take (suc n) slots) es ≡ items_in (take n slots) es = items-same (item_in (take n slots)) (item_in (take (suc n) slots)) es (λ i d lt. same (get_or es i d).slot) in
@@ -137,20 +137,20 @@ module _ {T K : Type 0} {by : T → T → Ordering} (o : IsTotalOrder by) (sort 
   next = omega arith
 
   -- a slot without an item
-  pub IsListed-skip : get slots n ≡ None → IsListed by sort (take (n + 1) slots) es
-  IsListed-skip none = subst (λ (m : ℕ). IsListed by sort (take m slots) es) next (skip none)
+  pub IsListed-skip : get slots n ≡ None → IsListed by sort cmp (take (n + 1) slots) es
+  IsListed-skip none = subst (λ (m : ℕ). IsListed by sort cmp (take m slots) es) next (skip none)
 
   -- the item of the slot, listed at its place
   pub IsListed-more : (x : T) (k : K) (i : ℕ) → get slots n ≡ Some x → sort x ≡ k → IsSplit (λ y. by y x) (items_in (take n slots) es) i 0
-      → IsListed by sort (take (n + 1) slots) (insert es i (record { sort_key = k; slot = n }))
+      → IsListed by sort cmp (take (n + 1) slots) (insert es i (record { sort_key = k; slot = n }))
   IsListed-more x k i is keyed gap =
       let e : Entry K = record { sort_key = k; slot = n } in
-      subst (λ (m : ℕ). IsListed by sort (take m slots) (insert es i e)) next
+      subst (λ (m : ℕ). IsListed by sort cmp (take m slots) (insert es i e)) next
       (IsListed-inserted o sort (take n slots) es r (take (suc n) slots) e i x (get-past slots n n (omega arith)) (updated slots n (Some x) is)
-      (omega (arith, length-contents (take n slots), length-contents (take (suc n) slots), contents-more slots n x is)) keyed gap)
+      (omega (arith, length-contents (take n slots), length-contents (take (suc n) slots), contents-more slots n x is)) (λ q. ap (λ z. cmp z q) keyed) gap)
 
 -- the same items in other slots, listed anew
-module _ {T K : Type 0} {by : T → T → Ordering} (o : IsTotalOrder by) (sort : T → K) (slots : List (Option T)) (es : List (Entry K)) (r : IsListed by sort slots es)
+module _ {T K : Type 0} {by : T → T → Ordering} (o : IsTotalOrder by) (sort : T → K) {cmp : K → K → Ordering} (slots : List (Option T)) (es : List (Entry K)) (r : IsListed by sort cmp slots es)
     (new : List (Option T)) (same : contents new ≡ contents slots) where
   had : IsPermutation (contents new) (items_in slots es)
   had = subst (λ (q : List T). IsPermutation q (items_in slots es)) (sym same) (IsPermutation-listed o sort slots es r)
@@ -161,7 +161,7 @@ module _ {T K : Type 0} {by : T → T → Ordering} (o : IsTotalOrder by) (sort 
   pub sound-relisted : (ranks : Ranks T) → AreLawful ranks → IsSound ranks (items_in slots es) → IsSound ranks (contents new)
   sound-relisted ranks laws sound = IsSound-IsPermutation ranks laws (items_in slots es) (contents new) (IsPermutation-sym _ _ had) sound
 
-  module _ (es2 : List (Entry K)) (r2 : IsListed by sort new es2) where
+  module _ (es2 : List (Entry K)) (r2 : IsListed by sort cmp new es2) where
     pub items-relisted : items_in new es2 ≡ items_in slots es
     items-relisted = ascending-unique o (items_in new es2) (items_in slots es) r2.ascending r.ascending
         (IsPermutation-trans _ _ _ (IsPermutation-sym _ _ (IsPermutation-listed o sort new es2 r2)) had)

@@ -17,10 +17,11 @@ module _ {T K : Type 0} where
   abbrev pub items_in : List (Option T) → List (Entry K) → List T
   items_in slots entries = filter_map (item_in slots) entries
 
-  -- The entries are those of the slots that have an item, each with the sort key of its item, and the items ascend.
+  -- The entries are those of the slots that have an item, each with a sort key that compares as that of its item, and the items
+  -- ascend.
   -- Example: It holds of the same slots and the entries (3, 2), (5, 0).
-  pub record IsListed (by : T → T → Ordering) (sort : T → K) (slots : List (Option T)) (entries : List (Entry K)) : Type 0 where
+  pub record IsListed (by : T → T → Ordering) (sort : T → K) (cmp : K → K → Ordering) (slots : List (Option T)) (entries : List (Entry K)) : Type 0 where
     pub live : All (λ e. IsLive slots e.slot) entries
-    pub keyed : All (λ e. (x : T) → item_in slots e ≡ Some x → sort x ≡ e.sort_key) entries
+    pub keyed : All (λ e. (x : T) → item_in slots e ≡ Some x → (k : K) → cmp (sort x) k ≡ cmp e.sort_key k) entries
     pub counted : live_count slots ≡ length entries
     pub ascending : IsAscending by (items_in slots entries)

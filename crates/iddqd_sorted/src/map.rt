@@ -67,6 +67,6 @@ where
 
     // The order lists exactly the slots that have an item. That no two items have an equal key of the same rank, and that the
     // tables lead to them, is the invariant of the map inside.
-    ghost invariant = { λ m. IsListed (by_sort M.Item.sort_key M.Item.SortKey.cmp M.first_key M.FirstKey.cmp) M.Item.sort_key
+    ghost invariant = { λ m. IsListed (by_sort M.Item.sort_key M.Item.SortKey.cmp M.first_key M.FirstKey.cmp) M.Item.sort_key M.Item.SortKey.cmp
         (M.shown m.map).slots (line m.order.blocks) };
 }

@@ -18,7 +18,7 @@ where
     M::FirstKey: Ord,
 {
     /// Searches for an item with the sort key and the first key of this one. `Ok` has its place, and `Err` the place at which
-    /// it would go.
+    /// it would go. If the last item went to the end, it first looks whether this one does too.
     pub(crate) fn place_of(&self, item: &M::Item, meter: &mut Meter) -> Result<Place, Place>
         ensures entry { IfOk result (HasEntry self.now.blocks) }
         ensures found { IfOk result (λ p. IsSplit (λ y. by_sort M.Item.sort_key M.Item.SortKey.cmp M.first_key M.FirstKey.cmp y item.now)
@@ -33,7 +33,7 @@ where
             sort_key: item.sort_key(),
             first_key: M::first_key(item),
         };
-        self.order.search(&compare, meter)
+        self.order.search_last_first(&compare, meter)
     }
 
     /// Returns the place of the first item whose sort key is not lower than this one. It is the end if there is none.

@@ -1,5 +1,6 @@
 //! Replacing an item by another, whatever their keys are.
 ghost use Rattle.std.specs.Prelude.{◌≡◌, ℕ, ◌+◌, ◌*◌, ◌^◌, ◌<◌, ◌≤◌, not, filter, length, map, Some, IfOk, IfErr, OnOk, OnErr};
+ghost use Rattle.std.specs.declared.cmp.Ordering.TheVariants.{Equal};
 ghost use Rattle.iddqd_store.specs.Bag.{IsOnly};
 ghost use Rattle.iddqd_store.specs.Rank.All.{hashes_of};
 ghost use Rattle.iddqd_sorted.specs.Items.{items, bag, by_sort, with_item};
@@ -27,8 +28,8 @@ where
     /// item has the key asked for, and `Conflict` if some other item conflicts with the new one. The capacity stays.
     ///
     /// The call hashes the query and searches for it once, and hashes each key of the new item and searches for it once. It
-    /// walks through each table at most twice. Among fewer than `4 ^ r` items it compares at most `6 * r + 40` sort keys. It
-    /// allocates no memory.
+    /// walks through each table at most twice. Among fewer than `4 ^ r` items it compares at most `6 * r + 40` sort keys, and
+    /// one if the sort key and the first key stay. It allocates no memory.
     pub(crate) fn rekey_by<R, Q: Query<<M as FindsBy<R>>::Key>>(
         &mut self,
         query: Q,
@@ -48,6 +49,8 @@ where
         ensures reason { IfErr result (λ e. TellsWhyRefused M.ranks (λ y. Q.stands_for query (⟦<M as FindsBy<R>>⟧.key y))
             (items self.old) item e) }
         ensures asked { (r : ℕ) → length (items self.old) < 4 ^ r → meter.new ≤ meter.old + (6 * r + 40) }
+        ensures kept { IfOk result (λ x. by_sort M.Item.sort_key M.Item.SortKey.cmp M.first_key M.FirstKey.cmp x item ≡ Equal
+            → meter.new ≤ meter.old + 1) }
         ensures costs { RekeyingCosts (⟦<M as FindsBy<R>>⟧.key_hash self.old.builder) (M.hashes self.old.builder) (bag self.old)
             self.old.capacity (M.hash_of self.old.builder (Q.hash_input query)) (hashes_of (M.hashes self.old.builder) item)
             (map (λ _. 2) M.ranks) result costs.old costs.new }
@@ -55,12 +58,19 @@ where
         let Some((slot, _)) = self.map.slot_by(query, costs) else {
             return Err(Refused::Absent(item));
         };
-        let place = Sorted::<M>::place_of_slot(&self.map, &self.order, slot, meter);
+        if !self.is_level(slot, &item, meter) {
+            let place = Sorted::<M>::place_of_slot(&self.map, &self.order, slot, meter);
+            return match self.map.rekey_at(slot, item, costs) {
+                Ok(gone) => {
+                    Sorted::<M>::resettle(&self.map, &mut self.order, place, slot, meter);
+                    Ok(gone)
+                }
+                Err(item) => Err(Refused::Conflict(item)),
+            };
+        }
+        // The new item has the place in the order of the old one.
         match self.map.rekey_at(slot, item, costs) {
-            Ok(gone) => {
-                Sorted::<M>::resettle(&self.map, &mut self.order, place, slot, meter);
-                Ok(gone)
-            }
+            Ok(gone) => Ok(gone),
             Err(item) => Err(Refused::Conflict(item)),
         }
     }

@@ -1,6 +1,8 @@
 //! Putting an item with the same keys and maybe another sort key in the place of one.
 ghost use Rattle.std.specs.Prelude.{◌≡◌, ℕ, ◌+◌, ◌*◌, ◌^◌, ◌<◌, ◌≤◌, true, false, length, Some, IfOk, IfErr, OnOk, OnErr, slice_index_or};
 ghost use Rattle.std.specs.List.{list_any, remove};
+ghost use Rattle.std.specs.Ordering.{is_eq};
+ghost use Rattle.std.specs.declared.cmp.Ordering.TheVariants.{Equal};
 ghost use Rattle.iddqd_store.specs.Bag.{IsOnly, agrees};
 ghost use Rattle.iddqd_store.specs.SlotMap.{SearchesFirst};
 ghost use Rattle.iddqd_store.specs.Slots.{get, IsLive};
@@ -10,6 +12,7 @@ ghost use Rattle.iddqd_sorted.specs.Items.{items, bag, by_sort, with_item};
 use super::Sorted;
 use crate::item::Sortable;
 use iddqd_store::{Costs, ItemIndex, Meter, SlotMap};
+use std::cmp::Ordering;
 
 impl<M: SlotMap> Sorted<M>
 where
@@ -20,7 +23,7 @@ where
     /// another sort key. The error has the new item, and the map is as it was: no item has all the keys.
     ///
     /// The call hashes the first key once, and searches for it once. Among fewer than `4 ^ r` items it compares at most
-    /// `6 * r + 40` sort keys. It allocates no memory, and writes no table. If the new sort key does not pass that of a neighbour in
+    /// `6 * r + 40` sort keys, and one if the sort key stays. It allocates no memory, and writes no table. If the new sort key does not pass that of a neighbour in
     /// the order, no other item moves there. The capacity stays.
     ///
     /// `sessions.replace(session.seen_at(now))`
@@ -49,6 +52,8 @@ where
         ensures unchanged { OnErr result (self.new ≡ self.old) }
         ensures reason { OnErr result (list_any (agrees M.ranks item) (items self.old) ≡ false) }
         ensures asked { (r : ℕ) → length (items self.old) < 4 ^ r → meter.new ≤ meter.old + (6 * r + 40) }
+        ensures kept { IfOk result (λ x. by_sort M.Item.sort_key M.Item.SortKey.cmp M.first_key M.FirstKey.cmp x item ≡ Equal
+            → meter.new ≤ meter.old + 1) }
         ensures costs { SearchesFirst (M.hashes self.old.builder) (bag self.old) self.old.capacity item costs.old costs.new }
     {
         match self.map.slot_of_all(&item, costs) {
@@ -57,8 +62,8 @@ where
         }
     }
 
-    /// Puts an item in the place of the one of this slot, which has the same keys. If the new sort key does not pass that of a
-    /// neighbour in the order, no other item moves there.
+    /// Puts an item in the place of the one of this slot, which has the same keys. If the sort key stays, it compares once, and
+    /// nothing in the order changes.
     fn exchange(&mut self, slot: ItemIndex, item: M::Item, meter: &mut Meter) -> M::Item
         requires live { IsLive self.old.slots slot }
         requires same_keys { (x : M.Item) → get self.old.slots slot ≡ Some x → agrees M.ranks x item ≡ true }
@@ -69,6 +74,64 @@ where
         ensures capacity { self.new.capacity ≡ self.old.capacity }
         ensures builder { self.new.builder ≡ self.old.builder }
         ensures asked { (r : ℕ) → length (items self.old) < 4 ^ r → meter.new ≤ meter.old + (6 * r + 40) }
+        ensures kept { by_sort M.Item.sort_key M.Item.SortKey.cmp M.first_key M.FirstKey.cmp result item ≡ Equal
+            → meter.new ≤ meter.old + 1 }
+    {
+        if self.is_level(slot, &item, meter) {
+            self.put_level(slot, item)
+        } else {
+            self.put_moved(slot, item, meter)
+        }
+    }
+
+    /// Returns whether an item has the place in the order that the one of this slot has: whether their sort keys are equal, and
+    /// their first keys. It compares once.
+    pub(super) fn is_level(&self, slot: ItemIndex, item: &M::Item, meter: &mut Meter) -> bool
+        requires live { IsLive self.now.slots slot }
+        ensures value { (x : M.Item) → get self.now.slots slot ≡ Some x
+            → result ≡ is_eq (by_sort M.Item.sort_key M.Item.SortKey.cmp M.first_key M.FirstKey.cmp x item.now) }
+        ensures asked { meter.new ≡ meter.old + 1 }
+    {
+        meter.tick();
+        let old = self.map.slots().item(slot);
+        match old.sort_key().cmp(&item.sort_key()) {
+            Ordering::Equal => match M::first_key(old).cmp(M::first_key(item)) {
+                Ordering::Equal => true,
+                _ => false,
+            },
+            _ => false,
+        }
+    }
+
+    /// Puts an item in the place of the one of this slot, which has the same keys and the same place in the order. No entry of the
+    /// order changes.
+    fn put_level(&mut self, slot: ItemIndex, item: M::Item) -> M::Item
+        requires live { IsLive self.old.slots slot }
+        requires same_keys { (x : M.Item) → get self.old.slots slot ≡ Some x → agrees M.ranks x item ≡ true }
+        requires level { (x : M.Item) → get self.old.slots slot ≡ Some x
+            → is_eq (by_sort M.Item.sort_key M.Item.SortKey.cmp M.first_key M.FirstKey.cmp x item) ≡ true }
+        ensures value { get self.old.slots slot ≡ Some result }
+        ensures puts { (i : ℕ) × (i < length (items self.old)) × ((d : M.Item) → result ≡ slice_index_or (items self.old) i d)
+            × (items self.new ≡ with_item (by_sort M.Item.sort_key M.Item.SortKey.cmp M.first_key M.FirstKey.cmp)
+            (remove (items self.old) i) item) }
+        ensures capacity { self.new.capacity ≡ self.old.capacity }
+        ensures builder { self.new.builder ≡ self.old.builder }
+    {
+        self.map.replace_at(slot, item)
+    }
+
+    /// Puts an item in the place of the one of this slot, which has the same keys, and moves it to its place in the order. If the new
+    /// sort key does not pass that of a neighbour in the order, no other item moves there.
+    fn put_moved(&mut self, slot: ItemIndex, item: M::Item, meter: &mut Meter) -> M::Item
+        requires live { IsLive self.old.slots slot }
+        requires same_keys { (x : M.Item) → get self.old.slots slot ≡ Some x → agrees M.ranks x item ≡ true }
+        ensures value { get self.old.slots slot ≡ Some result }
+        ensures puts { (i : ℕ) × (i < length (items self.old)) × ((d : M.Item) → result ≡ slice_index_or (items self.old) i d)
+            × (items self.new ≡ with_item (by_sort M.Item.sort_key M.Item.SortKey.cmp M.first_key M.FirstKey.cmp)
+            (remove (items self.old) i) item) }
+        ensures capacity { self.new.capacity ≡ self.old.capacity }
+        ensures builder { self.new.builder ≡ self.old.builder }
+        ensures asked { (r : ℕ) → length (items self.old) < 4 ^ r → meter.new ≤ meter.old + (6 * r + 37) }
     {
         let place = Sorted::<M>::place_of_slot(&self.map, &self.order, slot, meter);
         let gone = self.map.replace_at(slot, item);

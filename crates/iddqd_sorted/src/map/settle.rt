@@ -1,14 +1,14 @@
 //! Entries that come to their places in the order.
 ghost use Rattle.std.specs.Prelude.{◌≡◌, ℕ, ◌+◌, ◌*◌, ◌^◌, ◌<◌, ◌≤◌, [], All, true, length, Some, None, slice_index_or, slice_set};
 ghost use Rattle.std.specs.List.{remove};
-ghost use Rattle.std.specs.declared.cmp.Ordering.TheVariants.{Less, Greater};
+ghost use Rattle.std.specs.declared.cmp.Ordering.TheVariants.{Less, Equal, Greater};
 ghost use Rattle.iddqd_order.specs.Row.{entries_in, line, position, HasEntry};
 ghost use Rattle.iddqd_order.specs.Search.{IsSearchable, IsSplit};
 ghost use Rattle.iddqd_store.specs.Bag.{conflicts_of};
 ghost use Rattle.iddqd_store.specs.Slots.{contents, get, IsLive};
 ghost use Rattle.iddqd_sorted.specs.Entries.{IsListed};
 ghost use Rattle.iddqd_sorted.specs.Items.{by_sort};
-ghost use Rattle.iddqd_sorted.specs.Settled.{ListsOthers, Settles};
+ghost use Rattle.iddqd_sorted.specs.Settled.{ListsBefore, ListsOthers, Resettles, Settles};
 ghost use Rattle.iddqd_sorted.specs.declared.entry.Entry.{Entry};
 
 use super::Sorted;
@@ -24,7 +24,7 @@ where
     M::Item: Sortable,
     M::FirstKey: Ord,
 {
-    /// Returns the place of the entry of a slot. Among fewer than `4 ^ r` entries it compares at most `3 * r + 19` sort keys.
+    /// Returns the place of the entry of a slot. Among fewer than `4 ^ r` entries it compares at most `3 * r + 16` sort keys.
     pub(crate) fn place_of_slot(
         map: &M,
         order: &Blocks<Entry<<M::Item as Sortable>::SortKey>>,
@@ -32,13 +32,13 @@ where
         meter: &mut Meter,
     ) -> Place
         requires live { IsLive (M.shown map.now).slots slot }
-        requires listed { IsListed (by_sort M.Item.sort_key M.Item.SortKey.cmp M.first_key M.FirstKey.cmp) M.Item.sort_key
+        requires listed { IsListed (by_sort M.Item.sort_key M.Item.SortKey.cmp M.first_key M.FirstKey.cmp) M.Item.sort_key M.Item.SortKey.cmp
             (M.shown map.now).slots (line order.now.blocks) }
         ensures entry { HasEntry order.now.blocks result }
         ensures slot { (d : Entry M.Item.SortKey) → (slice_index_or (line order.now.blocks) (position order.now.blocks result) d).slot ≡ slot }
         ensures within { position order.now.blocks result < length (line order.now.blocks) }
         ensures fits { length (line order.now.blocks) ≤ order.now.capacity }
-        ensures asked { (r : ℕ) → length (line order.now.blocks) < 4 ^ r → meter.new ≤ meter.old + (3 * r + 19) }
+        ensures asked { (r : ℕ) → length (line order.now.blocks) < 4 ^ r → meter.new ≤ meter.old + (3 * r + 16) }
     {
         let item = map.slots().item(slot);
         let compare: ByItem<'_, M> = ByItem {
@@ -50,6 +50,67 @@ where
             Ok(place) => place,
             Err(_) => unreachable!(),
         }
+    }
+
+    /// Returns the place of the entry of a slot whose item changed, but for its first key: `before` was its sort key. Among fewer than
+    /// `4 ^ r` entries it compares at most `3 * r + 16` sort keys.
+    fn place_before_change(
+        map: &M,
+        order: &Blocks<Entry<<M::Item as Sortable>::SortKey>>,
+        slot: ItemIndex,
+        before: <M::Item as Sortable>::SortKey,
+        meter: &mut Meter,
+    ) -> Place
+        requires live { IsLive (M.shown map.now).slots slot }
+        requires lists { ListsBefore M.Item.sort_key M.Item.SortKey.cmp M.first_key M.FirstKey.cmp
+            (M.shown map.now).slots slot before (line order.now.blocks) }
+        ensures entry { HasEntry order.now.blocks result }
+        ensures slot { (d : Entry M.Item.SortKey) → (slice_index_or (line order.now.blocks) (position order.now.blocks result) d).slot ≡ slot }
+        ensures within { position order.now.blocks result < length (line order.now.blocks) }
+        ensures fits { length (line order.now.blocks) ≤ order.now.capacity }
+        ensures asked { (r : ℕ) → length (line order.now.blocks) < 4 ^ r → meter.new ≤ meter.old + (3 * r + 16) }
+    {
+        let item = map.slots().item(slot);
+        let compare: ByItem<'_, M> = ByItem {
+            items: map.slots(),
+            sort_key: before,
+            first_key: M::first_key(item),
+        };
+        match order.search(&compare, meter) {
+            Ok(place) => place,
+            Err(_) => unreachable!(),
+        }
+    }
+
+    /// Brings the entry of a slot whose item changed, but for its first key, to the place of the item: `before` was its sort key. If the
+    /// sort key stayed, it compares once, and no entry changes. Among fewer than `4 ^ r` entries it compares at most
+    /// `6 * r + 38` sort keys. It asks for no memory.
+    pub(crate) fn resettle_changed(
+        map: &M,
+        order: &mut Blocks<Entry<<M::Item as Sortable>::SortKey>>,
+        slot: ItemIndex,
+        before: <M::Item as Sortable>::SortKey,
+        meter: &mut Meter,
+    )
+        requires live { IsLive (M.shown map.now).slots slot }
+        requires lists { ListsBefore M.Item.sort_key M.Item.SortKey.cmp M.first_key M.FirstKey.cmp
+            (M.shown map.now).slots slot before (line order.old.blocks) }
+        requires free { (x : M.Item) → get (M.shown map.now).slots slot ≡ Some x
+            → conflicts_of M.ranks (contents (slice_set (M.shown map.now).slots slot None)) x ≡ [] }
+        ensures settles { Resettles (by_sort M.Item.sort_key M.Item.SortKey.cmp M.first_key M.FirstKey.cmp) M.Item.sort_key M.Item.SortKey.cmp
+            (M.shown map.now).slots slot (line order.old.blocks) (line order.new.blocks) }
+        ensures capacity { order.new.capacity ≡ order.old.capacity }
+        ensures asked { (r : ℕ) → length (line order.old.blocks) < 4 ^ r → meter.new ≤ meter.old + (6 * r + 38) }
+        ensures kept { (x : M.Item) → get (M.shown map.now).slots slot ≡ Some x → M.Item.SortKey.cmp before (M.Item.sort_key x) ≡ Equal
+            → meter.new ≤ meter.old + 1 }
+    {
+        meter.tick();
+        let after = map.slots().item(slot).sort_key();
+        if let Ordering::Equal = before.cmp(&after) {
+            return;
+        }
+        let place = Sorted::<M>::place_before_change(map, order, slot, before, meter);
+        Sorted::<M>::resettle(map, order, place, slot, meter);
     }
 
     /// Inserts the entry of a slot, which the order does not list yet, at the place where the slot's item belongs. No other item
@@ -64,10 +125,10 @@ where
         requires live { IsLive (M.shown map.now).slots slot }
         requires free { (x : M.Item) → get (M.shown map.now).slots slot ≡ Some x
             → conflicts_of M.ranks (contents (slice_set (M.shown map.now).slots slot None)) x ≡ [] }
-        requires others { ListsOthers (by_sort M.Item.sort_key M.Item.SortKey.cmp M.first_key M.FirstKey.cmp) M.Item.sort_key
+        requires others { ListsOthers (by_sort M.Item.sort_key M.Item.SortKey.cmp M.first_key M.FirstKey.cmp) M.Item.sort_key M.Item.SortKey.cmp
             (M.shown map.now).slots slot (line order.old.blocks) }
         requires room { length (line order.old.blocks) < order.old.capacity }
-        ensures settles { Settles (by_sort M.Item.sort_key M.Item.SortKey.cmp M.first_key M.FirstKey.cmp) M.Item.sort_key
+        ensures settles { Settles (by_sort M.Item.sort_key M.Item.SortKey.cmp M.first_key M.FirstKey.cmp) M.Item.sort_key M.Item.SortKey.cmp
             (M.shown map.now).slots slot (line order.old.blocks) (line order.new.blocks) }
         ensures capacity { order.new.capacity ≡ order.old.capacity }
         ensures asked { (r : ℕ) → length (line order.old.blocks) < 4 ^ r → meter.new ≤ meter.old + (3 * r + 19) }
@@ -79,7 +140,7 @@ where
             sort_key,
             first_key: M::first_key(item),
         };
-        let Err(place) = order.search(&compare, meter) else {
+        let Err(place) = order.search_last_first(&compare, meter) else {
             unreachable!()
         };
         let _ = order.insert_within(place, Entry { sort_key, slot });
@@ -99,10 +160,10 @@ where
         requires live { IsLive (M.shown map.now).slots slot }
         requires free { (x : M.Item) → get (M.shown map.now).slots slot ≡ Some x
             → conflicts_of M.ranks (contents (slice_set (M.shown map.now).slots slot None)) x ≡ [] }
-        requires others { ListsOthers (by_sort M.Item.sort_key M.Item.SortKey.cmp M.first_key M.FirstKey.cmp) M.Item.sort_key
+        requires others { ListsOthers (by_sort M.Item.sort_key M.Item.SortKey.cmp M.first_key M.FirstKey.cmp) M.Item.sort_key M.Item.SortKey.cmp
             (M.shown map.now).slots slot (remove (line order.old.blocks) (position order.old.blocks place)) }
         requires fits { length (line order.old.blocks) ≤ order.old.capacity }
-        ensures settles { Settles (by_sort M.Item.sort_key M.Item.SortKey.cmp M.first_key M.FirstKey.cmp) M.Item.sort_key
+        ensures settles { Settles (by_sort M.Item.sort_key M.Item.SortKey.cmp M.first_key M.FirstKey.cmp) M.Item.sort_key M.Item.SortKey.cmp
             (M.shown map.now).slots slot (remove (line order.old.blocks) (position order.old.blocks place)) (line order.new.blocks) }
         ensures capacity { order.new.capacity ≡ order.old.capacity }
         ensures asked { (r : ℕ) → length (line order.old.blocks) < 4 ^ r → meter.new ≤ meter.old + (3 * r + 21) }

@@ -2,6 +2,7 @@
 ghost use Rattle.std.specs.Prelude.{◌≡◌, ℕ, ◌+◌, ◌*◌, ◌^◌, ◌<◌, ◌≤◌, true, false, length, Some};
 ghost use Rattle.std.specs.Fn.{FnOnceReturnsAt, FnOnceTakesAt};
 ghost use Rattle.std.specs.List.{list_any};
+ghost use Rattle.std.specs.declared.cmp.Ordering.TheVariants.{Equal};
 ghost use Rattle.iddqd_store.specs.Bag.{IsOnly};
 ghost use Rattle.iddqd_sorted.specs.Items.{items, by_sort};
 ghost use Rattle.iddqd_sorted.specs.Keyed.{MapsOne, StoresOne};
@@ -20,7 +21,7 @@ where
     /// is not called, and nothing changes. The capacity stays.
     ///
     /// The call hashes the query and searches for it once. Among fewer than `4 ^ r` items it compares at most `6 * r + 40` sort
-    /// keys. It allocates no memory, and writes no table.
+    /// keys, and the old one with the new one alone if the sort key stays. It allocates no memory, and writes no table.
     pub(crate) fn update_by<
         R,
         Q: Query<<M as FindsBy<R>>::Key>,
@@ -30,8 +31,10 @@ where
         M: FindsBy<R> + StoresData,
         <M as StoresData>::Data: Drop,
         F: Drop,
-        requires { (x : M.Item) → IsOnly (λ y. Q.stands_for query (⟦<M as FindsBy<R>>⟧.key y)) (items self.old) (Some x)
+        requires takes { (x : M.Item) → IsOnly (λ y. Q.stands_for query (⟦<M as FindsBy<R>>⟧.key y)) (items self.old) (Some x)
             → FnOnceTakesAt F.FnOnce f x }
+        requires first_key { (x : M.Item) (d : M.Data)
+            → M.FirstKey.eq (M.first_key (⟦<M as StoresData>⟧.put x d)) (M.first_key x) ≡ true }
         ensures any_found { result ≡ list_any (λ y. Q.stands_for query (⟦<M as FindsBy<R>>⟧.key y)) (items self.old) }
         ensures stores { result ≡ true → StoresOne (FnOnceReturnsAt F.FnOnce f) ⟦<M as StoresData>⟧.put
             (by_sort M.Item.sort_key M.Item.SortKey.cmp M.first_key M.FirstKey.cmp)
@@ -43,14 +46,18 @@ where
         ensures capacity { self.new.capacity ≡ self.old.capacity }
         ensures builder { self.new.builder ≡ self.old.builder }
         ensures asked { (r : ℕ) → length (items self.old) < 4 ^ r → meter.new ≤ meter.old + (6 * r + 40) }
+        // If the sort key stays, one comparison is all.
+        ensures kept { ((x : M.Item) (d : M.Data) → IsOnly (λ y. Q.stands_for query (⟦<M as FindsBy<R>>⟧.key y)) (items self.old) (Some x)
+            → FnOnceReturnsAt F.FnOnce f x d → M.Item.SortKey.cmp (M.Item.sort_key x) (M.Item.sort_key (⟦<M as StoresData>⟧.put x d)) ≡ Equal)
+            → meter.new ≤ meter.old + 1 }
     {
         let Some((slot, _)) = self.map.slot_by(query, costs) else {
             return false;
         };
-        let place = Sorted::<M>::place_of_slot(&self.map, &self.order, slot, meter);
+        let before = self.map.slots().item(slot).sort_key();
         let d = f(self.map.slots().item(slot));
         self.map.store_at(slot, d);
-        Sorted::<M>::resettle(&self.map, &mut self.order, place, slot, meter);
+        Sorted::<M>::resettle_changed(&self.map, &mut self.order, slot, before, meter);
         true
     }
 }

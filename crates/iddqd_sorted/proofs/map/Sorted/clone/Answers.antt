@@ -36,7 +36,7 @@ invariant_of-result g c =
     let made = IsListed-cloned g.M.Item.Clone.is_clone slots (g.M.SlotMap.shown c.in_ok-map.map).slots c.in_ok-map.ensures.slots o sort es c.self.invariant
     (λ x d there cloned. one_place sort g.met.M.Item.SortKey.Ord.total key g.M.FirstKey.Ord.cmp x d (sorted x d there cloned) (sym (g.met.M.FirstKey.Ord.matches_eq (key x) (key d)) ∙ first x d there cloned))
     sorted in
-    subst (λ (q : List (Entry g.row.M-Item-SortKey.Denot)). IsListed (by_sort sort g.M.Item.SortKey.Ord.cmp key g.M.FirstKey.Ord.cmp) sort (g.M.SlotMap.shown c.in_ok-map.map).slots q) (sym (same_entries g c)) made
+    subst (λ (q : List (Entry g.row.M-Item-SortKey.Denot)). IsListed (by_sort sort g.M.Item.SortKey.Ord.cmp key g.M.FirstKey.Ord.cmp) sort g.M.Item.SortKey.Ord.cmp (g.M.SlotMap.shown c.in_ok-map.map).slots q) (sym (same_entries g c)) made
 
 pub returns-clause-items : goal.returns-clause-items
 returns-clause-items g c =

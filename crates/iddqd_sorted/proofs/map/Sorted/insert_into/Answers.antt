@@ -31,7 +31,7 @@ invariant_of-self g c =
     let gap = rw (← c.self.view_is) at c.requires.gap.1 in
     let e : Entry g.row.M-Item-SortKey.Denot = record { sort_key = c.sort_key-sort_key.result; slot = c.insert_into-slot.result } in
     let more : live_count new ≡ live_count slots + 1 = omega (arith, length_permutation _ _ put.puts_at.items, length-contents slots, length-contents new) in
-    rw (c.insert.ensures.entries) (IsListed-inserted (total g.M.Item.Sortable.sort_key g.met.M.Item.SortKey.Ord.total g.M.SlotMap.first_key g.met.M.FirstKey.Ord.total) g.M.Item.Sortable.sort_key (g.M.SlotMap.shown c.self.inside.map).slots (line c.self.inside.order.blocks) c.self.invariant new e (position c.self.inside.order.blocks c.args.place) c.args.item put.was_free put.updates more (sym c.sort_key-sort_key.ensures) gap)
+    rw (c.insert.ensures.entries) (IsListed-inserted (total g.M.Item.Sortable.sort_key g.met.M.Item.SortKey.Ord.total g.M.SlotMap.first_key g.met.M.FirstKey.Ord.total) g.M.Item.Sortable.sort_key (g.M.SlotMap.shown c.self.inside.map).slots (line c.self.inside.order.blocks) c.self.invariant new e (position c.self.inside.order.blocks c.args.place) c.args.item put.was_free put.updates more (λ q. ap (λ z. g.M.Item.SortKey.Ord.cmp z q) (sym c.sort_key-sort_key.ensures)) gap)
 
 pub returns-clause-inserted : goal.returns-clause-inserted
 returns-clause-inserted g c =

@@ -19,4 +19,4 @@ pub returns-clause-asked : goal.returns-clause-asked
 returns-clause-asked g c = λ r few.
     (let as_many = long (total g.M.Item.Sortable.sort_key g.met.M.Item.SortKey.Ord.total g.M.SlotMap.first_key g.met.M.FirstKey.Ord.total) g.M.Item.Sortable.sort_key (g.M.SlotMap.shown c.self.inside.map).slots (line c.self.inside.order.blocks) c.self.invariant in
     let few_items = rw (← c.self.view_is) at few in
-    c.search.ensures.asked r (omega (arith, as_many, few_items)))
+    omega (arith, c.search.ensures.asked r (omega (arith, as_many, few_items))))

@@ -53,7 +53,7 @@ pub returns-clause-asked : goal.returns-clause-asked
 returns-clause-asked g c = λ r few.
     (let all = total g.M.Item.Sortable.sort_key g.met.M.Item.SortKey.Ord.total g.M.SlotMap.first_key g.met.M.FirstKey.Ord.total in
     let few_items = rw (← c.self.view_is) at few in
-    c.place_of_slot-place.ensures.asked r (omega (arith, long all g.M.Item.Sortable.sort_key (g.M.SlotMap.shown c.self.inside.map).slots (line c.self.inside.order.blocks) c.self.invariant, few_items)))
+    omega (arith, c.place_of_slot-place.ensures.asked r (omega (arith, long all g.M.Item.Sortable.sort_key (g.M.SlotMap.shown c.self.inside.map).slots (line c.self.inside.order.blocks) c.self.invariant, few_items))))
 
 pub returns-clause-costs : goal.returns-clause-costs
 returns-clause-costs g c =

@@ -26,4 +26,4 @@ returns-clause-ascending g c = (invariant_of-self g c).ascending
 pub returns-clause-asked : goal.returns-clause-asked
 returns-clause-asked g c = λ r few.
     (let few_slots = rw (← c.self.view_is) at few in
-    c.place_of_slot-place.ensures.asked r (omega (arith, c.self.invariant.counted, length-contents (g.M.SlotMap.shown c.self.inside.map).slots, few_slots)))
+    omega (arith, c.place_of_slot-place.ensures.asked r (omega (arith, c.self.invariant.counted, length-contents (g.M.SlotMap.shown c.self.inside.map).slots, few_slots))))

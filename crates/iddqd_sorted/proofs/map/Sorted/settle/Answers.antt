@@ -11,13 +11,13 @@ use Rattle.iddqd_sorted.proofs.Settling.{live_seen, settled, other_searchable, o
 use Rattle.iddqd_sorted.proofs.Sorting.{total, same_key}
 use Rattle.iddqd_sorted.proofs.map.Sorted.settle.Goals as goal
 
-pub search-requires-clause-asks : goal.search-requires-clause-asks
-search-requires-clause-asks g c =
+pub search_last_first-requires-clause-asks : goal.search_last_first-requires-clause-asks
+search_last_first-requires-clause-asks g c =
     let all = total g.M.Item.Sortable.sort_key g.met.M.Item.SortKey.Ord.total g.M.SlotMap.first_key g.met.M.FirstKey.Ord.total in
     rw c.slots-2.ensures (live_seen all g.M.Item.Sortable.sort_key (g.M.SlotMap.shown c.args.map.now).slots c.args.slot c.item-item.result.now (rw c.slots.ensures at c.item-item.ensures) (line c.args.order.now.blocks) c.requires.others)
 
-pub search-requires-clause-ordered : goal.search-requires-clause-ordered
-search-requires-clause-ordered g c =
+pub search_last_first-requires-clause-ordered : goal.search_last_first-requires-clause-ordered
+search_last_first-requires-clause-ordered g c =
     other_searchable g.M.Item.Sortable.sort_key g.met.M.Item.SortKey.Ord.total g.M.SlotMap.first_key g.met.M.FirstKey.Ord.total (g.M.SlotMap.shown c.args.map.now).slots c.args.slot c.item-item.result.now (rw c.slots.ensures at c.item-item.ensures) (line c.args.order.now.blocks) c.requires.others _ c.slots-2.ensures _ c.sort_key-sort_key.ensures _ c.first_key.ensures
 
 -- the item at the place that was found would conflict

@@ -9,7 +9,7 @@ use Rattle.iddqd_sorted.proofs.Exchanged.{put, as_many, others_left, others_item
 use Rattle.iddqd_sorted.proofs.Listed.{long}
 use Rattle.iddqd_sorted.proofs.Settling.{item_at_slot}
 use Rattle.iddqd_sorted.proofs.Sorting.{total}
-use Rattle.iddqd_sorted.proofs.map.Sorted.exchange.Goals as goal
+use Rattle.iddqd_sorted.proofs.map.Sorted.put_moved.Goals as goal
 
 pub replace_at-gone-requires-clause-same_keys : goal.replace_at-gone-requires-clause-same_keys
 replace_at-gone-requires-clause-same_keys g c = rw (← c.self.view_is) at c.requires.same_keys
