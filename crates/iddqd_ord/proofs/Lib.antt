@@ -13,5 +13,6 @@ pub mod RangeLemmas
 pub mod RefLemmas
 pub mod RekeyLemmas
 pub mod RewriteLemmas
+pub mod StableLemmas
 pub mod StepLemmas
 pub mod VisitLemmas

@@ -51,7 +51,7 @@ impl<T: IdOrdItem> IdOrdMap<T> {
         ensures reason { IfErr result (λ e. TellsWhy T.IdOrdItem T.Key.cmp self.old item e) }
         ensures asked { (r : ℕ) → length (items self.old) < 4 ^ r → meter.new ≤ meter.old + (3 * r + 19) }
     {
-        match self.place_of(item.key(), meter) {
+        match self.place_for(item.key(), meter) {
             Ok(_) => Err(Rejected { item, taken: true }),
             Err(place) => match self.insert_or_refuse(item, place) {
                 Ok(_) => Ok(()),

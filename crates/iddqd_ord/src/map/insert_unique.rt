@@ -40,7 +40,7 @@ impl<T: IdOrdItem> IdOrdMap<T> {
         ensures* ends { sem 𝓛 (ends_as T.row T.Key.row self.entry result
             (λ new. Gains T.IdOrdItem T.Key.cmp self.old item new)) }
     {
-        match self.place_of(item.key(), &mut Meter::new()) {
+        match self.place_for(item.key(), &mut Meter::new()) {
             Ok(place) => Err(InsertError {
                 map: self,
                 item,

@@ -31,7 +31,7 @@ impl<T: IdOrdItem> IdOrdMap<T> {
 
     /// Inserts as `insert_overwrite` does, which calls it, and counts the keys compared.
     #[inline(always)]
-    fn insert_overwrite_counted(
+    pub(super) fn insert_overwrite_counted(
         &mut self,
         item: T,
         meter: &mut Meter,
@@ -44,7 +44,7 @@ impl<T: IdOrdItem> IdOrdMap<T> {
         ensures reason { OnErr result (IsFullFor T.IdOrdItem T.Key.cmp self.old item) }
         ensures asked { (r : ℕ) → length (items self.old) < 4 ^ r → meter.new ≤ meter.old + (3 * r + 19) }
     {
-        match self.place_of(item.key(), meter) {
+        match self.place_for(item.key(), meter) {
             Ok(place) => Ok(Some(self.replace_in(place, item))),
             Err(place) => match self.insert_or_refuse(item, place) {
                 Ok(_) => Ok(None),

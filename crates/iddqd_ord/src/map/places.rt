@@ -99,6 +99,28 @@ impl<T: IdOrdItem> IdOrdMap<T> {
         self.items.search(&ByQuery { query: &query }, meter)
     }
 
+    /// Searches as `place_of` does, for a place to insert at: if the last insert went to the end, it first looks whether this one does
+    /// too.
+    #[inline(always)]
+    pub(crate) fn place_for<Q: OrdQuery<T::Key>>(
+        &self,
+        query: Q,
+        meter: &mut Meter,
+    ) -> Result<Place, Place>
+        ensures entry { IfOk result (HasEntry self.now.blocks) }
+        ensures found { IfOk result (λ p. IsSplit (query_comparison T.IdOrdItem Q.compare query) (items self.now)
+            (position self.now.blocks p) 1) }
+        ensures place { IfErr result (IsPlace self.now.blocks) }
+        ensures gap { IfErr result (λ p. IsSplit (query_comparison T.IdOrdItem Q.compare query) (items self.now)
+            (position self.now.blocks p) 0) }
+        ensures ascending { IsAscending T.Key.cmp T.key (items self.now) }
+        ensures fits { length (items self.now) ≤ self.now.capacity }
+        ensures asked { (r : ℕ) → length (items self.now) < 4 ^ r → meter.new ≤ meter.old + (3 * r + 19) }
+    {
+        self.items
+            .search_last_first(&ByQuery { query: &query }, meter)
+    }
+
     /// Returns the item at this place, which is the first of the items from this place on.
     pub(crate) fn item_in(&self, place: Place) -> &T
         requires { HasEntry self.now.blocks place }

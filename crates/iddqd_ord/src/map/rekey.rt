@@ -18,7 +18,8 @@ impl<T: IdOrdItem> IdOrdMap<T> {
     ///
     /// Among fewer than `4 ^ r` items the call compares at most `3 * (3 * r + 19) + 1` keys. It searches for the query, and
     /// compares the keys of both items. If they are equal, the new item takes the place of the old one. Otherwise it searches for
-    /// the new key, and where that is free, for its place once the old item is gone. It allocates no memory, and the capacity
+    /// the new key, and where that is free, for its place once the old item is gone: if the last insert went to the end, it first
+    /// looks at the end each time. It allocates no memory, and the capacity
     /// stays.
     ///
     /// `match map.rekey(&key, item) { Ok(old) => drop(old), Err(e) => keep_for_later(e.into_item()) }`
@@ -65,12 +66,12 @@ impl<T: IdOrdItem> IdOrdMap<T> {
         meter.tick();
         match self.item_in(place).key().cmp(item.key()) {
             Ordering::Equal => Ok(self.replace_in(place, item)),
-            _ => match self.place_of(item.key(), meter) {
+            _ => match self.place_for(item.key(), meter) {
                 Ok(_) => Err(NotReplaced::Duplicate(item)),
                 Err(_) => {
                     // The map has room for the new item once the old one is gone.
                     let (old, _) = self.remove_in(place);
-                    let Err(place) = self.place_of(item.key(), meter) else {
+                    let Err(place) = self.place_for(item.key(), meter) else {
                         unreachable!()
                     };
                     self.insert_within(item, place);

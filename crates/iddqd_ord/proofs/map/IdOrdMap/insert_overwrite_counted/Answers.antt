@@ -18,7 +18,7 @@ returns-in-Ok-clause-overwrites g c =
     let as_many = ap length c.replace_in.ensures.replaced ∙ length-set (items m) (position m.blocks c.in-Ok.place) c.args.item in
     record {
       lists = c.replace_in.ensures.replaced ∙ replaced-split _ _ _ found c.args.item;
-      fits = omega (arith, as_many, c.place_of.ensures.fits, c.replace_in.ensures.capacity);
+      fits = omega (arith, as_many, c.place_for.ensures.fits, c.replace_in.ensures.capacity);
       no_less_room = omega (arith, c.replace_in.ensures.capacity);
       same_room = λ room. c.replace_in.ensures.capacity;
       no_growth = λ any. c.replace_in.ensures.capacity;

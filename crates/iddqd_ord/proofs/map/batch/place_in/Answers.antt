@@ -1,4 +1,4 @@
-use Rattle.std.proofs.Common.{[], sym, ◌∙◌}
+use Rattle.std.proofs.Common.{[], sym, ◌∙◌, arith}
 use Rattle.std.proofs.lemmas.Result.{IfOk-weaker, IfErr-weaker}
 use Rattle.std.proofs.lemmas.List.Sorted.{list_any-IsPermutation}
 use Rattle.iddqd_order.specs.Row.{entries_in}
@@ -39,4 +39,4 @@ returns-clause-gap g c =
 
 pub returns-clause-asked : goal.returns-clause-asked
 returns-clause-asked g c = λ r few.
-    (c.search.ensures.asked r (rw (IsOrderOf-length g.T.IdOrdItem g.T.Key.Ord.cmp c.args.list.now (entries_in c.args.numbers.now) c.requires) few))
+    omega (arith, c.search.ensures.asked r (rw (IsOrderOf-length g.T.IdOrdItem g.T.Key.Ord.cmp c.args.list.now (entries_in c.args.numbers.now) c.requires) few))
