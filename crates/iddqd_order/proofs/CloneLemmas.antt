@@ -27,3 +27,9 @@ module _ {E : Type 0} where
   row_fits memory [] r = omega (arith, mul-zero memory)
   row_fits memory (x ∷ row) r =
       omega (arith, (r 0 (omega arith)).most, row_fits memory row (λ b lt. r (suc b) (omega arith)), length-append x (line row), mul-suc memory (length row))
+
+-- a row of one block
+pub one_block : {E : Type 0} (row : List (List E)) → length row ≡ 1 → line row ≡ block_at row 0
+one_block [] one = absurd (omega (arith, one))
+one_block (x ∷ []) one = append-nil x
+one_block (x ∷ y ∷ row) one = absurd (omega (arith, one))

@@ -23,6 +23,8 @@ pub(crate) struct BlockRow<E> {
     spare: Vec<Block<E>>,
     memory: usize,
     most: usize,
+    // What its maker gave as `most`. It is that again once no block is wider.
+    bound: usize,
 }
 
 impl<E> Model for BlockRow<E> {
@@ -54,6 +56,7 @@ impl<E> BlockRow<E> {
             spare: Vec::new(alloc),
             memory: 0,
             most,
+            bound: most,
         }
     }
 

@@ -264,6 +264,7 @@ pub(super) fn insert<E>(
     ensures at { position row.new.blocks result ≡ position row.old.blocks place }
 {
     if row.len() == 0 {
+        set_aside(row, kept, capacity, alloc, asks);
         row.start(entry);
         return Place {
             block: 0,
@@ -273,6 +274,38 @@ pub(super) fn insert<E>(
     let place = make_room(row, kept, capacity, alloc, asks, place);
     row.insert(place.block, place.offset, entry);
     place
+}
+
+/// If all memory is in one wide block, which is empty, and memory may be asked for, gets a block that is not wide, and keeps the wide one,
+/// as after a reserve. So no entry that comes then has to move past all others. If the memory is refused, nothing has changed.
+#[cold]
+#[inline(never)]
+fn set_aside<E>(
+    row: &mut BlockRow<E>,
+    kept: &mut Block<E>,
+    capacity: usize,
+    alloc: Global,
+    asks: bool,
+)
+    requires none { row.old.blocks ≡ [] }
+    requires unused { kept.old.entries ≡ [] }
+    requires held { capacity ≤ room_of row.old kept.old }
+    requires some { 0 < row.old.memory * (length row.old.blocks + row.old.spare) }
+    ensures blocks { row.new.blocks ≡ [] }
+    ensures unused { kept.new.entries ≡ [] }
+    ensures held { capacity ≤ room_of row.new kept.new }
+    ensures some { 0 < row.new.memory * (length row.new.blocks + row.new.spare) }
+{
+    if !asks || row.most() <= 128 {
+        return;
+    }
+    if let Some(wide) = row.exchange(alloc) {
+        if kept.room() < wide.room() {
+            replace(kept, wide).free();
+        } else {
+            wide.free();
+        }
+    }
 }
 
 /// Returns the same place, in a block.

@@ -27,6 +27,7 @@ impl<E: Clone> BlockRow<E> {
             blocks,
             memory,
             most: self.most,
+            bound: self.bound,
         })
     }
 }

@@ -1,9 +1,11 @@
 //! Memory that a row gives back.
-ghost use Rattle.std.specs.Prelude.{◌≡◌, ◌+◌, ◌*◌, ◌<◌, ◌≤◌, [], length, All, IsTrue};
+ghost use Rattle.std.specs.Prelude.{◌≡◌, ◌+◌, ◌*◌, ◌<◌, ◌≤◌, [], length, All, IsTrue, IfSome, IfNone};
 ghost use Rattle.iddqd_order.specs.Row.{line, entry_lists};
 
 use super::BlockRow;
 use crate::block::Block;
+use std::alloc::Global;
+use std::mem::replace;
 
 /// Returns whether so many blocks with so much memory each hold so many entries.
 fn holds(memory: usize, blocks: usize, entries: usize) -> bool
@@ -53,7 +55,6 @@ impl<E> BlockRow<E> {
         requires held { entries ≤ self.old.memory * (length self.old.blocks + self.old.spare) }
         requires fits { length (line self.old.blocks) ≤ entries }
         ensures blocks { self.new.blocks ≡ self.old.blocks }
-        ensures most { self.new.most ≡ self.old.most }
         ensures held { entries ≤ self.new.memory * (length self.new.blocks + self.new.spare) }
     {
         while 0 < self.spare() && holds(self.memory, self.total() - 1, entries) {
@@ -63,6 +64,48 @@ impl<E> BlockRow<E> {
         if self.total() == 1 && entries.max(4) < self.memory {
             self.narrow(entries.max(4));
         }
+        self.heal();
+    }
+
+    /// If blocks may be wide, but none is, they may not be any more.
+    fn heal(&mut self)
+        ensures blocks { self.new.blocks ≡ self.old.blocks }
+        ensures spare { self.new.spare ≡ self.old.spare }
+        ensures memory { self.new.memory ≡ self.old.memory }
+    {
+        let usual = self.usual();
+        if 128 < self.most && self.memory <= usual {
+            self.most = usual;
+        }
+    }
+
+    /// Returns how many entries a block has at most, unless all are in one wide block.
+    pub(crate) fn usual(&self) -> usize
+        ensures low { 16 ≤ result }
+        ensures high { result ≤ 128 }
+    {
+        self.bound.min(128).max(16)
+    }
+
+    /// Gets a block that is not wide, in place of the only one, which is spare. Returns the latter, or `None` if there is no memory, and
+    /// then nothing has changed.
+    pub(crate) fn exchange(&mut self, alloc: Global) -> Option<Block<E>>
+        requires none { self.old.blocks ≡ [] }
+        requires one { self.old.spare ≡ 1 }
+        ensures blocks { self.new.blocks ≡ [] }
+        ensures memory { IfSome result (λ _. 0 < self.new.memory * (length self.new.blocks + self.new.spare)) }
+        ensures unused { IfSome result (λ wide. wide.entries ≡ []) }
+        ensures room { IfSome result (λ wide. self.old.memory ≤ wide.room) }
+        ensures unchanged { IfNone result (self.new ≡ self.old) }
+    {
+        let usual = self.usual();
+        let Ok(block) = Block::new(alloc, usual) else {
+            return None;
+        };
+        let wide = replace(&mut self.spare[0], block);
+        self.memory = usual;
+        self.most = usual;
+        Some(wide)
     }
 
     /// Gives the room of the rows for blocks that are gone back.
@@ -133,6 +176,7 @@ impl<E> BlockRow<E> {
             spare,
             memory: _,
             most: _,
+            bound: _,
         } = self;
         blocks.destroy_empty();
         spare.destroy_empty();
@@ -149,6 +193,7 @@ impl<E> BlockRow<E> {
             spare,
             memory: _,
             most: _,
+            bound: _,
         } = self;
         spare.destroy_empty();
         blocks
