@@ -16,6 +16,7 @@ use crate::search::Compare;
 use iddqd_store::Meter;
 use std::alloc::{AllocError, Global};
 use std::marker::Model;
+use std::mem::size_of_val;
 
 mod clone;
 mod joins;
@@ -130,6 +131,21 @@ impl<E> Blocks<E> {
         ensures fits { length (entries_in self.now) ≤ result }
     {
         self.capacity
+    }
+
+    /// If there is no memory yet, has as many entries in a block at most from now on as suits the size of this one: 128 up to 32 bytes,
+    /// 64 up to 64 bytes, and else 32. The fewer they are, the fewer bytes an insert moves, and the longer a search takes.
+    pub fn suit(&mut self, entry: &E)
+        ensures { self.new ≡ self.old }
+    {
+        let size = size_of_val(entry);
+        self.row.bound_by(if size <= 32 {
+            128
+        } else if size <= 64 {
+            64
+        } else {
+            32
+        });
     }
 
     /// Searches for what is sought. `Ok` has its place, and `Err` the place at which it would go.

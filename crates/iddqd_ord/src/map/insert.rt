@@ -76,7 +76,7 @@ impl<T: IdOrdItem> IdOrdMap<T> {
         ensures full { OnErr result (length (items self.old) ≡ self.old.capacity) }
         ensures unchanged { OnErr result (self.new ≡ self.old) }
     {
-        match self.make_room() {
+        match self.make_room(&item) {
             Ok(()) => Ok(self.insert_into(item, place)),
             Err(_) => Err(item),
         }

@@ -201,9 +201,9 @@ impl<T: IdOrdItem> IdOrdMap<T> {
         self.items.end()
     }
 
-    /// Reserves capacity for one more item if the map is full. If that fails, the map is as before.
+    /// Reserves capacity for this item if the map is full. If that fails, the map is as before.
     #[inline(always)]
-    pub(crate) fn make_room(&mut self) -> Result<(), TryReserveError>
+    pub(crate) fn make_room(&mut self, item: &T) -> Result<(), TryReserveError>
         ensures blocks { self.new.blocks ≡ self.old.blocks }
         ensures no_less_room { self.old.capacity ≤ self.new.capacity }
         ensures same_room { length (items self.old) < self.old.capacity → self.new ≡ self.old }
@@ -212,6 +212,7 @@ impl<T: IdOrdItem> IdOrdMap<T> {
         ensures unchanged { OnErr result (self.new ≡ self.old) }
     {
         if self.items.len() == self.items.capacity() {
+            self.items.suit(item);
             self.items.try_reserve(1)?;
         }
         Ok(())

@@ -79,6 +79,19 @@ impl<E> BlockRow<E> {
         }
     }
 
+    /// Has at most so many entries in a block from now on, if there is no memory yet.
+    pub(crate) fn bound_by(&mut self, most: usize)
+        requires low { 16 ≤ most }
+        ensures blocks { self.new.blocks ≡ self.old.blocks }
+        ensures spare { self.new.spare ≡ self.old.spare }
+        ensures memory { self.new.memory ≡ self.old.memory }
+    {
+        if self.memory == 0 && self.total() == 0 {
+            self.bound = most;
+            self.most = most;
+        }
+    }
+
     /// Returns how many entries a block has at most, unless all are in one wide block.
     pub(crate) fn usual(&self) -> usize
         ensures low { 16 ≤ result }
