@@ -3,9 +3,9 @@
 use Rattle.std.specs.Prelude.{◌≡◌, ℕ, false, List, [], ◌∷◌, ◌++◌, Some, ⊤, map, slice_get, IsPermutation}
 use Rattle.std.specs.List.{list_any}
 use Rattle.std.specs.declared.cmp.Ordering.{Ordering}
-use Rattle.iddqd_ord.specs.Items.{has_key_of, with_item}
+use Rattle.iddqd_ord.specs.Items.{OrdMap, has_key_of, with_item}
 use Rattle.iddqd_ord.specs.Ordered.{IsAscending}
-use Rattle.iddqd_ord.specs.Extensions.{with_items}
+use Rattle.iddqd_ord.specs.Extensions.{ExtendsTo, with_items}
 use Rattle.iddqd_ord.specs.declared.item.IdOrdItem as item
 
 module _ {T Key : Type 0} (of : item.Ghosts T Key) (cmp : Key → Key → Ordering) where
@@ -23,10 +23,17 @@ module _ {T Key : Type 0} (of : item.Ghosts T Key) (cmp : Key → Key → Orderi
     pub ascending : IsAscending cmp of.key (with_items of cmp [] list)
     pub same : IsPermutation (with_items of cmp [] list) list
 
-  -- `x` is in the list, and has the key of none of `held` and of none before it in the list. No public clause cites it.
-  -- Example: For 3, 5 and the list 4, 5, 1, 4 it holds of 1, and of the first 4.
-  pub record StopsAt (held list : List T) (x : T) : Type 0 where
+  -- The map has the first items of a list (`ExtendsTo`), and the others are left. No public clause cites it.
+  -- Example: A map of 3, 5 and the list 4, 1 become a map of 3, 4, 5, and 1 is left.
+  pub record Gathers (old : OrdMap T) (list : List T) (new : OrdMap T) (left : List T) : Type 0 where
+    pub put : List T
+    pub is : list ≡ put ++ left
+    pub extends : ExtendsTo of cmp old put new
+
+  -- The map has the items of a list before `x`, which is one of the list (`ExtendsTo`). No public clause cites it.
+  -- Example: A map of 3, 5 and the list 4, 1, 6 become a map of 3, 4, 5, and `x` is 1.
+  pub record StopsAt (old : OrdMap T) (list : List T) (x : T) (new : OrdMap T) : Type 0 where
     pub before : List T
     pub behind : List T
     pub is : list ≡ before ++ x ∷ behind
-    pub free : list_any (has_key_of of cmp x) (with_items of cmp held before) ≡ false
+    pub extends : ExtendsTo of cmp old before new

@@ -20,6 +20,7 @@ mod extend;
 mod extend_unique;
 mod extract;
 mod find;
+mod gathered;
 mod guard;
 mod insert;
 mod insert_unique;

@@ -183,11 +183,25 @@ impl<E> Blocks<E> {
         ensures asked { (r : ℕ) → length (entries_in self.now) < 4 ^ r → meter.new ≤ meter.old + (3 * r + 17) }
     {
         if self.appends {
-            if let Some(place) = search::behind_last(&self.row, sought, meter) {
+            if let Some(place) = self.behind_last(sought, meter) {
                 return Err(place);
             }
         }
         search::search(&self.row, sought, meter)
+    }
+
+    /// Returns the place behind all entries, if there are some and the last one is lower than what is sought.
+    ///
+    /// It compares once at most.
+    #[inline(always)]
+    pub fn behind_last<C: Compare<E>>(&self, sought: &C, meter: &mut Meter) -> Option<Place>
+        requires asks { All (C.MayAsk sought.now) (entries_in self.now) }
+        requires ordered { IsSearchable (C.order sought.now) (entries_in self.now) }
+        ensures place { IfSome result (IsPlace self.now.blocks) }
+        ensures gap { IfSome result (λ p. IsSplit (C.order sought.now) (entries_in self.now) (position self.now.blocks p) 0) }
+        ensures asked { meter.new ≤ meter.old + 1 }
+    {
+        search::behind_last(&self.row, sought, meter)
     }
 
     /// Returns the entry at this place.

@@ -121,6 +121,21 @@ impl<T: IdOrdItem> IdOrdMap<T> {
             .search_last_first(&ByQuery { query: &query }, meter)
     }
 
+    /// Returns the place behind all items, if there are some and the query seeks a higher key than theirs.
+    #[inline(always)]
+    pub(super) fn place_at_end<Q: OrdQuery<T::Key>>(
+        &self,
+        query: Q,
+        meter: &mut Meter,
+    ) -> Option<Place>
+        ensures place { IfSome result (IsPlace self.now.blocks) }
+        ensures gap { IfSome result (λ p. IsSplit (query_comparison T.IdOrdItem Q.compare query) (items self.now)
+            (position self.now.blocks p) 0) }
+        ensures asked { meter.new ≤ meter.old + 1 }
+    {
+        self.items.behind_last(&ByQuery { query: &query }, meter)
+    }
+
     /// Returns the item at this place, which is the first of the items from this place on.
     pub(crate) fn item_in(&self, place: Place) -> &T
         requires { HasEntry self.now.blocks place }
