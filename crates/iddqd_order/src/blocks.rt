@@ -27,8 +27,9 @@ mod splits;
 
 /// Entries in order. Contracts see the blocks in which they stand; the list of the entries is their `line`.
 ///
-/// A block has memory for 16 to 128 entries, as its maker says. While there is but one, its memory doubles. An insert asks for a
-/// block where one is full, and as soon as there are two, for one that stays spare. Below the capacity no insert needs memory: if
+/// A block has memory for 16 to 128 entries, as the maker of the blocks says, or as suits the size of the first entry (`suit`). While
+/// there is but one, its memory doubles. An insert asks for a block where one is full, and as soon as there are two, for one that
+/// stays spare. Below the capacity no insert needs memory: if
 /// a block is full, no block is spare, and none is to be had, an entry moves to the block beside. If that is full too, entries of
 /// thin blocks move together, so that one block is spare. If the blocks have less room than one block in all, one entry of each
 /// block moves, up to the next one that is not full.
@@ -133,8 +134,10 @@ impl<E> Blocks<E> {
         self.capacity
     }
 
-    /// If there is no memory yet, has as many entries in a block at most from now on as suits the size of this one: 128 up to 32 bytes,
-    /// 64 up to 64 bytes, and else 32. The fewer they are, the fewer bytes an insert moves, and the longer a search takes.
+    /// Chooses how many entries a block has at most, by the size of this entry: 128 up to 32 bytes, 64 up to 64 bytes, and else 32.
+    /// Where there is memory already, nothing changes. The fewer entries a block has, the fewer bytes an insert moves, and the longer a
+    /// search takes.
+    // The size is that of an entry, since the prover takes `size_of` of a type parameter only as a factor of a product.
     pub fn suit(&mut self, entry: &E)
         ensures { self.new ≡ self.old }
     {
@@ -165,9 +168,9 @@ impl<E> Blocks<E> {
     }
 
     /// Searches as `search` does, for a place to insert at: if the last insert went behind all entries, it first looks whether this
-    /// one does too.
+    /// one does too (`behind_last`).
     ///
-    /// Among fewer than `4 ^ r` entries it compares at most `3 * r + 17` times.
+    /// Among fewer than `4 ^ r` entries it compares at most `3 * r + 17` times, and once if it finds that the place is behind all.
     pub fn search_last_first<C: Compare<E>>(
         &self,
         sought: &C,

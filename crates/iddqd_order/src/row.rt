@@ -23,7 +23,7 @@ pub(crate) struct BlockRow<E> {
     spare: Vec<Block<E>>,
     memory: usize,
     most: usize,
-    // What its maker gave as `most`. It is that again once no block is wider.
+    // How many entries a block has at most while there is no wide one, which has more than 128.
     bound: usize,
 }
 

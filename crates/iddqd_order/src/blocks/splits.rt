@@ -276,8 +276,8 @@ pub(super) fn insert<E>(
     place
 }
 
-/// If all memory is in one wide block, which is empty, and memory may be asked for, gets a block that is not wide, and keeps the wide one,
-/// as after a reserve. So no entry that comes then has to move past all others. If the memory is refused, nothing has changed.
+/// If all memory is in one wide block, which is empty, and memory may be asked for, gets a block that is not wide, and keeps the wide
+/// one, as after a reserve. So no entry that comes then has to move past all others. If the memory is refused, nothing has changed.
 #[cold]
 #[inline(never)]
 fn set_aside<E>(

@@ -67,7 +67,7 @@ impl<E> BlockRow<E> {
         self.heal();
     }
 
-    /// If blocks may be wide, but none is, they may not be any more.
+    /// If the only block may be wide, but has memory for no more entries than one that is not, it may not be wide any more.
     fn heal(&mut self)
         ensures blocks { self.new.blocks ≡ self.old.blocks }
         ensures spare { self.new.spare ≡ self.old.spare }
@@ -79,7 +79,7 @@ impl<E> BlockRow<E> {
         }
     }
 
-    /// Has at most so many entries in a block from now on, if there is no memory yet.
+    /// Has at most so many entries in a block from now on. Where there is memory already, nothing changes.
     pub(crate) fn bound_by(&mut self, most: usize)
         requires low { 16 ≤ most }
         ensures blocks { self.new.blocks ≡ self.old.blocks }
