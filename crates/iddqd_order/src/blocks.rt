@@ -137,10 +137,10 @@ impl<E> Blocks<E> {
     /// Chooses how many entries a block has at most, by the size of this entry: 128 up to 32 bytes, 64 up to 64 bytes, and else 32.
     /// Where there is memory already, nothing changes. The fewer entries a block has, the fewer bytes an insert moves, and the longer a
     /// search takes.
-    // The size is that of an entry, since the prover takes `size_of` of a type parameter only as a factor of a product.
     pub fn suit(&mut self, entry: &E)
         ensures { self.new ≡ self.old }
     {
+        // The prover takes `size_of` of a type parameter only as a factor of a product, and the size of an entry as any number.
         let size = size_of_val(entry);
         self.row.bound_by(if size <= 32 {
             128
