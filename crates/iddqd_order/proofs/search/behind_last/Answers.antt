@@ -1,7 +1,7 @@
-use Rattle.std.proofs.Common.{◌≡◌, ℕ, ◌+◌, ◌-◌, ◌<◌, length, refl, sym, ap, ◌∙◌, subst, arith}
+use Rattle.std.proofs.Common.{◌≡◌, ℕ, ◌+◌, ◌-◌, ◌<◌, length, sym, ap, ◌∙◌, subst, arith}
 use Rattle.std.specs.Prelude.{All, slice_index_or}
-use Rattle.iddqd_order.specs.Row.{line, block_at, start_of, position}
-use Rattle.iddqd_order.proofs.LineLemmas.{All-block, entry_at_position, length_parts, start_of-all, start_of-next, read_any}
+use Rattle.iddqd_order.specs.Row.{line, block_at, start_of}
+use Rattle.iddqd_order.proofs.LineLemmas.{All-block, entry_at_position, start_of-all, start_of-next, read_any}
 use Rattle.iddqd_order.proofs.SearchLemmas.{behind_lower}
 use Rattle.iddqd_order.proofs.search.behind_last.Goals as goal
 

@@ -1,4 +1,4 @@
-use Rattle.std.proofs.Common.{◌≤◌, length, take}
+use Rattle.std.proofs.Common.{take}
 use Rattle.std.specs.List.{AllZip}
 use Rattle.iddqd_order.specs.Row.{entries_in}
 use Rattle.iddqd_order.proofs.blocks.clone.clone_apart.Given as goal
