@@ -1,5 +1,5 @@
 -- Places of a row, and where they are after a block was split.
-use Rattle.std.proofs.Common.{◌≡◌, ℕ, zero, suc, ◌+◌, ◌<◌, ◌≤◌, List, [], ◌∷◌, length, set, take, refl, inl, inr, ap, ◌∙◌, arith, add-one}
+use Rattle.std.proofs.Common.{◌≡◌, ℕ, zero, suc, ◌+◌, ◌<◌, ◌≤◌, List, [], ◌∷◌, length, set, take, refl, inl, inr, ap, ◌∙◌, arith, add-one, ◌++◌, append_assoc}
 use Rattle.std.proofs.lemmas.Bool.{cases_lt}
 use Rattle.std.specs.List.{insert, remove}
 use Rattle.std.proofs.lemmas.List.{get_or_past, length-append, length-set, get_or-set_same, take-set}
@@ -66,6 +66,33 @@ module _ {E : Type 0} where
 
     pub start_of-joined : start_of (set (remove row (suc j)) j x) j ≡ start_of row j
     start_of-joined = ap (λ (q : List (List E)). length (line q)) (take-joined row j x within)
+
+  -- where the blocks start before two that are joined, and behind them
+  take-joined_before : (row : List (List E)) (j k : ℕ) (x : List E) → suc j < length row → k ≤ j → take k (set (remove row (suc j)) j x) ≡ take k row
+  take-joined_before [] j k x within le = absurd (omega arith)
+  take-joined_before (z ∷ row) j zero x within le = refl
+  take-joined_before (z ∷ row) zero (suc k) x within le = absurd (omega arith)
+  take-joined_before (z ∷ row) (suc j) (suc k) x within le = ap (λ (q : List (List E)). z ∷ q) (take-joined_before row j k x (omega arith) (omega arith))
+
+  line-joined_behind : (row : List (List E)) (j k : ℕ) → suc j < length row → j < k
+      → line (take k (set (remove row (suc j)) j (block_at row j ++ block_at row (suc j)))) ≡ line (take (suc k) row)
+  line-joined_behind [] j k within lt = absurd (omega arith)
+  line-joined_behind (z ∷ []) j k within lt = absurd (omega arith)
+  line-joined_behind (z ∷ (w ∷ row)) j zero within lt = absurd (omega arith)
+  line-joined_behind (z ∷ (w ∷ row)) zero (suc k) within lt = append_assoc z w (line (take k row))
+  line-joined_behind (z ∷ (w ∷ row)) (suc j) (suc k) within lt = ap (λ (q : List E). z ++ q) (line-joined_behind (w ∷ row) j k (omega arith) (omega arith))
+
+  pub start_of-joined_before : (row : List (List E)) (j k : ℕ) (x : List E) → j + 1 < length row → k ≤ j → start_of (set (remove row (j + 1)) j x) k ≡ start_of row k
+  start_of-joined_before row j k x within le = rw add-one (ap (λ (q : List (List E)). length (line q)) (take-joined_before row j k x (omega (arith, within)) le))
+
+  pub start_of-joined_behind : (row : List (List E)) (j k : ℕ) → j + 1 < length row → j < k
+      → start_of (set (remove row (j + 1)) j (block_at row j ++ block_at row (j + 1))) k ≡ start_of row (k + 1)
+  start_of-joined_behind row j k within lt = rw (add-one, add-one) (ap length (line-joined_behind row j k (omega (arith, within)) lt))
+
+  -- a block that starts and ends where one of another row does has as many entries
+  pub length-same_bounds : (old new : List (List E)) (a b : ℕ) → a < length old → b < length new → start_of new b ≡ start_of old a → start_of new (b + 1) ≡ start_of old (a + 1)
+      → length (block_at new b) ≡ length (block_at old a)
+  length-same_bounds old new a b in_old in_new start end = omega (arith, start_of-next old a in_old, start_of-next new b in_new, start, end)
 
   -- an edit of a block leaves where it starts
   pub start_of-set : (row : List (List E)) (b : ℕ) (x : List E) → start_of (set row b x) b ≡ start_of row b

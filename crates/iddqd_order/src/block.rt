@@ -119,10 +119,9 @@ impl<E> Block<E> {
         ensures entries { self.new.entries ≡ insert self.old.entries offset entry }
         ensures no_less { self.old.room ≤ self.new.room }
     {
-        match self.entries.insert(offset, entry) {
-            Ok(()) => {}
-            Err(_) => unreachable!(),
-        }
+        // The toolchain moves the entries by a loop in `insert` of a list, and all at once in a rotation by one.
+        self.entries.push_reserved(entry);
+        self.entries[offset..].rotate_right(1);
     }
 
     /// Inserts an entry behind the others.

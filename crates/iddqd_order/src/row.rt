@@ -25,6 +25,8 @@ pub(crate) struct BlockRow<E> {
     most: usize,
     // How many entries a block has at most while there is no wide one, which has more than 128.
     bound: usize,
+    // Where the last search for thin blocks ended. The next one begins there, and no contract speaks of it.
+    thin: usize,
 }
 
 impl<E> Model for BlockRow<E> {
@@ -57,6 +59,7 @@ impl<E> BlockRow<E> {
             memory: 0,
             most,
             bound: most,
+            thin: 0,
         }
     }
 
@@ -137,6 +140,18 @@ impl<E> BlockRow<E> {
         ensures most { result ≤ self.now.memory }
     {
         self.blocks[at].len()
+    }
+
+    /// Returns the number of the block at which a search for thin blocks begins. There may be no such block any more.
+    pub(crate) fn thin(&self) -> usize {
+        self.thin
+    }
+
+    /// Has the next search for thin blocks begin at this block.
+    pub(crate) fn begin_at(&mut self, thin: usize)
+        ensures { self.new ≡ self.old }
+    {
+        self.thin = thin;
     }
 
     /// Inserts an entry before this offset of this block.

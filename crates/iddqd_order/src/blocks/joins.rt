@@ -1,10 +1,13 @@
 //! Blocks that are too short: two of them are joined, and where a block is wanted, several move together.
-ghost use Rattle.std.specs.Prelude.{◌≡◌, ◌+◌, ◌^◌, ◌<◌, ◌≤◌, length, IfSome, IsTrue};
-ghost use Rattle.iddqd_order.specs.Row.{line, block_at, position, IsPlace, IsWithin, KeepsEntries};
+ghost use Rattle.std.specs.Prelude.{◌≡◌, ℕ, ◌+◌, ◌^◌, ◌<◌, ◌≤◌, length, false, IfSome, IsTrue};
+ghost use Rattle.iddqd_order.specs.Row.{line, block_at, start_of, position, IsPlace, IsWithin, KeepsEntries};
 
 use super::splits::{place_of, position_of};
 use crate::place::Place;
 use crate::row::BlockRow;
+
+/// At how many blocks a search for thin ones looks, unless it finds none among these.
+const ENOUGH: usize = 64;
 
 /// Returns whether this block and the next one, if there is one, are to be joined: both have no more than three quarters of a
 /// block between them.
@@ -52,10 +55,12 @@ pub(super) fn close_up<E>(row: &mut BlockRow<E>, place: Place) -> Place
     place
 }
 
-/// Returns the first of some neighbours whose entries fit into one block less, or `None` if no such are found. It takes the first
-/// two that it meets, and else the fewest. It takes a step for each block up to these two.
-fn thin_from<E>(row: &BlockRow<E>) -> Option<usize>
-    ensures within { IfSome result (λ b. b < length row.now.blocks) }
+/// Returns the first and the last of some neighbours, from this block on, whose entries fit into one block less, or `None` if no such are
+/// found. It takes the first two that it meets, and else the fewest of those that it meets among `ENOUGH` blocks. Only if there are none
+/// among these it looks at more.
+fn thin_from<E>(row: &BlockRow<E>, from: usize) -> Option<(usize, usize)>
+    ensures order { IfSome result (λ n. n.0 ≤ n.1) }
+    ensures within { IfSome result (λ n. n.1 < length row.now.blocks) }
 {
     let memory = row.memory();
     let count = row.len();
@@ -64,9 +69,9 @@ fn thin_from<E>(row: &BlockRow<E>) -> Option<usize>
     }
     let mut found = None;
     let mut least = count;
-    let mut first = 0;
+    let mut first = from;
     let mut room = 0;
-    for at in 0..count {
+    for at in from..count {
         if room == 0 {
             first = at;
         }
@@ -74,37 +79,62 @@ fn thin_from<E>(row: &BlockRow<E>) -> Option<usize>
         if memory <= room {
             if at - first < least {
                 least = at - first;
-                found = Some(first);
-            }
-            if least == 1 {
-                return found;
+                found = Some((first, at));
             }
             room = 0;
+        }
+        if least == 1 || (least < count && ENOUGH <= at - from) {
+            return found;
         }
     }
     found
 }
 
-/// Fills each block from this one on with entries of the next one, until that has none left and becomes spare.
-fn condense<E>(row: &mut BlockRow<E>, from: usize)
-    requires { from < length row.old.blocks }
+/// Returns the first and the last of some neighbours whose entries fit into one block less, or `None` if no such are found. Of many blocks
+/// it goes on with those at which the last such search ended, so that it does not look at the same full ones each time.
+fn find_thin<E>(row: &BlockRow<E>) -> Option<(usize, usize)>
+    ensures order { IfSome result (λ n. n.0 ≤ n.1) }
+    ensures within { IfSome result (λ n. n.1 < length row.now.blocks) }
+{
+    let from = row.thin();
+    if from != 0 && ENOUGH < row.len() {
+        if let Some(found) = thin_from(row, from) {
+            return Some(found);
+        }
+    }
+    thin_from(row, 0)
+}
+
+/// Fills each block from `from` on, up to `to`, with entries of the next one, until that has none left and becomes spare. Returns whether
+/// one did.
+fn condense<E>(row: &mut BlockRow<E>, from: usize, to: usize) -> bool
+    requires order { from ≤ to }
+    requires within { to < length row.old.blocks }
     ensures entries { KeepsEntries row.old row.new }
-    ensures some { 0 < length row.new.blocks }
+    ensures some { from < length row.new.blocks }
+    ensures before { (k : ℕ) → k ≤ from → start_of row.new.blocks k ≡ start_of row.old.blocks k }
+    ensures joined { IsTrue result → length row.new.blocks + 1 ≡ length row.old.blocks }
+    ensures joined_behind { IsTrue result → (k : ℕ) → to ≤ k → start_of row.new.blocks k ≡ start_of row.old.blocks (k + 1) }
+    ensures count { result ≡ false → length row.new.blocks ≡ length row.old.blocks }
+    ensures behind { result ≡ false → (k : ℕ) → to < k → start_of row.new.blocks k ≡ start_of row.old.blocks k }
 {
     let memory = row.memory();
     let mut at = from;
-    while 1 < row.len() - at {
+    while at < to {
         let room = memory - row.len_at(at);
         if row.len_at(at + 1) <= room {
             row.join(at);
-            return;
+            return true;
         }
         row.pull(at, room);
         at += 1;
     }
+    false
 }
 
 /// Makes a block spare if some neighbours have room for so many entries: these move together. Returns where the place is then.
+///
+/// Only if the place is among these neighbours, it takes a step for each of them to find it again.
 pub(super) fn spare_one<E>(row: &mut BlockRow<E>, place: Place) -> Place
     requires place { IsWithin row.old.blocks place }
     requires countable { length (line row.old.blocks) < 2 ^ 64 }
@@ -112,10 +142,26 @@ pub(super) fn spare_one<E>(row: &mut BlockRow<E>, place: Place) -> Place
     ensures place { IsWithin row.new.blocks result }
     ensures same { position row.new.blocks result ≡ position row.old.blocks place }
 {
-    let Some(from) = thin_from(row) else {
+    let Some((from, to)) = find_thin(row) else {
         return place;
     };
-    let position = position_of(row, place);
-    condense(row, from);
-    place_of(row, position)
+    row.begin_at(to);
+    if place.block < from {
+        let _ = condense(row, from, to);
+        return place;
+    }
+    if to < place.block {
+        let block = if condense(row, from, to) {
+            place.block - 1
+        } else {
+            place.block
+        };
+        return Place {
+            block,
+            offset: place.offset,
+        };
+    }
+    let before = position_of(row, from, place);
+    let _ = condense(row, from, to);
+    place_of(row, from, before)
 }

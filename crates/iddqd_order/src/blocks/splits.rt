@@ -1,7 +1,7 @@
 //! Room for one more entry in a block.
 ghost use Rattle.std.specs.Prelude.{◌≡◌, ◌+◌, ◌*◌, ◌^◌, ◌<◌, ◌≤◌, [], length, false, IsTrue};
 ghost use Rattle.std.specs.List.{insert};
-ghost use Rattle.iddqd_order.specs.Row.{line, block_at, position, IsPlace, IsWithin, HasEntry, HasRoom, KeepsEntries, room_of};
+ghost use Rattle.iddqd_order.specs.Row.{line, block_at, start_of, position, IsPlace, IsWithin, HasEntry, HasRoom, KeepsEntries, room_of};
 
 use super::joins::spare_one;
 use super::shifts::shift;
@@ -96,29 +96,30 @@ fn release<E>(row: &BlockRow<E>, kept: &mut Block<E>, capacity: usize)
     }
 }
 
-/// Returns the number of entries before this place.
-pub(super) fn position_of<E>(row: &BlockRow<E>, place: Place) -> usize
+/// Returns the number of entries from the start of a block up to this place, which is in it or behind it.
+pub(super) fn position_of<E>(row: &BlockRow<E>, from: usize, place: Place) -> usize
     requires place { IsWithin row.now.blocks place }
+    requires order { from ≤ place.block }
     requires countable { length (line row.now.blocks) < 2 ^ 64 }
-    ensures { result ≡ position row.now.blocks place }
+    ensures { start_of row.now.blocks from + result ≡ position row.now.blocks place }
 {
     let mut before = 0;
-    for b in 0..place.block {
+    for b in from..place.block {
         before += row.len_at(b);
     }
     before + place.offset
 }
 
-/// Returns the place with so many entries before it, in a block or at its end.
-pub(super) fn place_of<E>(row: &BlockRow<E>, before: usize) -> Place
-    requires some { 0 < length row.now.blocks }
-    requires within { before ≤ length (line row.now.blocks) }
+/// Returns the place with so many entries between the start of a block and it, in a block or at its end.
+pub(super) fn place_of<E>(row: &BlockRow<E>, from: usize, before: usize) -> Place
+    requires some { from < length row.now.blocks }
+    requires within { start_of row.now.blocks from + before ≤ length (line row.now.blocks) }
     ensures within { IsWithin row.now.blocks result }
-    ensures before { position row.now.blocks result ≡ before }
+    ensures before { position row.now.blocks result ≡ start_of row.now.blocks from + before }
 {
     let last = row.len() - 1;
     let mut place = Place {
-        block: 0,
+        block: from,
         offset: before,
     };
     while place.block < last {
@@ -148,7 +149,7 @@ fn gather<E>(row: &mut BlockRow<E>, kept: &mut Block<E>, alloc: Global, place: P
 {
     // The number of entries is less than that for which there is memory, so it can be counted.
     let _ = kept.room();
-    let offset = position_of(row, place);
+    let offset = position_of(row, 0, place);
     let wide = replace(kept, Block::none(alloc));
     row.gather(wide);
     Place { block: 0, offset }

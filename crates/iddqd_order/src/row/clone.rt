@@ -28,6 +28,7 @@ impl<E: Clone> BlockRow<E> {
             memory,
             most: self.most,
             bound: self.bound,
+            thin: 0,
         })
     }
 }

@@ -190,6 +190,7 @@ impl<E> BlockRow<E> {
             memory: _,
             most: _,
             bound: _,
+            thin: _,
         } = self;
         blocks.destroy_empty();
         spare.destroy_empty();
@@ -207,6 +208,7 @@ impl<E> BlockRow<E> {
             memory: _,
             most: _,
             bound: _,
+            thin: _,
         } = self;
         spare.destroy_empty();
         blocks

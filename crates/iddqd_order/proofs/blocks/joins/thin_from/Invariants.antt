@@ -6,5 +6,6 @@ abbrev pub invariant-loop-at : goal.invariant-loop-at
 invariant-loop-at g l = record {
   before : l.first ≤ l.at;
   room : l.room ≤ l.memory;
-  within : IfSome l.found (λ b. b < length l.row.blocks);
+  order : IfSome l.found (λ n. n.0 ≤ n.1);
+  within : IfSome l.found (λ n. n.1 < length l.row.blocks);
 }
