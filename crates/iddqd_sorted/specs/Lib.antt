@@ -2,6 +2,7 @@ pub mod Batches
 pub mod Entries
 pub mod Inserts
 pub mod Items
+pub mod Keeping
 pub mod Keyed
 pub mod Ordered
 pub mod Overwriting

@@ -32,7 +32,8 @@ where
     /// memory to grow.
     ///
     /// The call hashes each key of the item once, and searches for it once. Among fewer than `4 ^ r` items it compares at most
-    /// `3 * r + 19` sort keys. It asks for more capacity only if the map is full.
+    /// `3 * r + 19` sort keys, and one alone if the item goes to the end of the order, as the last one did that was put into it. It
+    /// asks for more capacity only if the map is full.
     pub fn try_insert(&mut self, item: M::Item) -> Result<(), M::Rejected>
         // The result is `Ok` only if no item has one of the keys, and then always if there is spare capacity.
         ensures gains { OnOk result (Gains (by_sort M.Item.sort_key M.Item.SortKey.cmp M.first_key M.FirstKey.cmp) self.old item self.new) }

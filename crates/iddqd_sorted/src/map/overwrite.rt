@@ -24,9 +24,9 @@ where
     ///
     /// The call hashes each key of the item once, and searches for it once. It also hashes those keys of the first removed item by
     /// which it did not find that item, and each key of the others. Among fewer than `4 ^ r` items it compares at most
-    /// `3 * r + 19` sort keys for the item, and as many for each that it removes. If items conflict, it allocates no memory and the
-    /// capacity stays. Otherwise it fails only if the map is full and there is no memory to grow. The error then has the item, and the
-    /// map is as it was.
+    /// `3 * r + 19` sort keys for the item, or one as `try_insert` does, and at most as many for each that it removes. If items
+    /// conflict, it allocates no memory and the capacity stays. Otherwise it fails only if the map is full and there is no memory to
+    /// grow. The error then has the item, and the map is as it was.
     ///
     /// `sessions.insert_overwrite(session)?`
     pub fn insert_overwrite(

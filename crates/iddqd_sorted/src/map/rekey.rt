@@ -1,9 +1,9 @@
 //! Replacing an item by another, whatever their keys are.
 ghost use Rattle.std.specs.Prelude.{◌≡◌, ℕ, ◌+◌, ◌*◌, ◌^◌, ◌<◌, ◌≤◌, not, filter, length, map, Some, IfOk, IfErr, OnOk, OnErr};
-ghost use Rattle.std.specs.declared.cmp.Ordering.TheVariants.{Equal};
 ghost use Rattle.iddqd_store.specs.Bag.{IsOnly};
 ghost use Rattle.iddqd_store.specs.Rank.All.{hashes_of};
 ghost use Rattle.iddqd_sorted.specs.Items.{items, bag, by_sort, with_item};
+ghost use Rattle.iddqd_sorted.specs.Keeping.{ComparesOnceIf, SharePlace};
 ghost use Rattle.iddqd_sorted.specs.Keyed.{RekeyingCosts, TellsWhyRefused, refused_item};
 
 use super::Sorted;
@@ -28,8 +28,9 @@ where
     /// item has the key asked for, and `Conflict` if some other item conflicts with the new one. The capacity stays.
     ///
     /// The call hashes the query and searches for it once, and hashes each key of the new item and searches for it once. It
-    /// walks through each table at most twice. Among fewer than `4 ^ r` items it compares at most `6 * r + 40` sort keys, and
-    /// one if the sort key and the first key stay. It allocates no memory.
+    /// walks through each table at most twice. If the sort key and the first key stay, it compares this sort key once, and nothing
+    /// moves in the order. Otherwise, among fewer than `4 ^ r` items, it compares at most `6 * r + 40` sort keys. It allocates no
+    /// memory.
     pub(crate) fn rekey_by<R, Q: Query<<M as FindsBy<R>>::Key>>(
         &mut self,
         query: Q,
@@ -49,8 +50,9 @@ where
         ensures reason { IfErr result (λ e. TellsWhyRefused M.ranks (λ y. Q.stands_for query (⟦<M as FindsBy<R>>⟧.key y))
             (items self.old) item e) }
         ensures asked { (r : ℕ) → length (items self.old) < 4 ^ r → meter.new ≤ meter.old + (6 * r + 40) }
-        ensures kept { IfOk result (λ x. by_sort M.Item.sort_key M.Item.SortKey.cmp M.first_key M.FirstKey.cmp x item ≡ Equal
-            → meter.new ≤ meter.old + 1) }
+        // If the sort key and the first key stay, one comparison is all.
+        ensures asked_once { IfOk result (λ x. ComparesOnceIf
+            (SharePlace (by_sort M.Item.sort_key M.Item.SortKey.cmp M.first_key M.FirstKey.cmp) x item) meter.old meter.new) }
         ensures costs { RekeyingCosts (⟦<M as FindsBy<R>>⟧.key_hash self.old.builder) (M.hashes self.old.builder) (bag self.old)
             self.old.capacity (M.hash_of self.old.builder (Q.hash_input query)) (hashes_of (M.hashes self.old.builder) item)
             (map (λ _. 2) M.ranks) result costs.old costs.new }

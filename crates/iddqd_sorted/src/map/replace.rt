@@ -2,12 +2,12 @@
 ghost use Rattle.std.specs.Prelude.{◌≡◌, ℕ, ◌+◌, ◌*◌, ◌^◌, ◌<◌, ◌≤◌, true, false, length, Some, IfOk, IfErr, OnOk, OnErr, slice_index_or};
 ghost use Rattle.std.specs.List.{list_any, remove};
 ghost use Rattle.std.specs.Ordering.{is_eq};
-ghost use Rattle.std.specs.declared.cmp.Ordering.TheVariants.{Equal};
 ghost use Rattle.iddqd_store.specs.Bag.{IsOnly, agrees};
 ghost use Rattle.iddqd_store.specs.SlotMap.{SearchesFirst};
 ghost use Rattle.iddqd_store.specs.Slots.{get, IsLive};
 ghost use Rattle.iddqd_sorted.specs.Inserts.{Replaces};
 ghost use Rattle.iddqd_sorted.specs.Items.{items, bag, by_sort, with_item};
+ghost use Rattle.iddqd_sorted.specs.Keeping.{ComparesOnceIf, SharePlace};
 
 use super::Sorted;
 use crate::item::Sortable;
@@ -22,9 +22,10 @@ where
     /// Puts an item in the place of the one that has each of its keys, and returns the latter: a touch, if the new item has
     /// another sort key. The error has the new item, and the map is as it was: no item has all the keys.
     ///
-    /// The call hashes the first key once, and searches for it once. Among fewer than `4 ^ r` items it compares at most
-    /// `6 * r + 40` sort keys, and one if the sort key stays. It allocates no memory, and writes no table. If the new sort key does not pass that of a neighbour in
-    /// the order, no other item moves there. The capacity stays.
+    /// The call hashes the first key once, and searches for it once. If the sort key stays, it compares this key once, and nothing
+    /// moves in the order. Otherwise, among fewer than `4 ^ r` items, it compares at most `6 * r + 40` sort keys, and if the new one
+    /// does not pass that of a neighbour in the order, no other item moves there. It allocates no memory, and writes no table. The
+    /// capacity stays.
     ///
     /// `sessions.replace(session.seen_at(now))`
     pub fn replace(&mut self, item: M::Item) -> Result<M::Item, M::Item>
@@ -52,8 +53,9 @@ where
         ensures unchanged { OnErr result (self.new ≡ self.old) }
         ensures reason { OnErr result (list_any (agrees M.ranks item) (items self.old) ≡ false) }
         ensures asked { (r : ℕ) → length (items self.old) < 4 ^ r → meter.new ≤ meter.old + (6 * r + 40) }
-        ensures kept { IfOk result (λ x. by_sort M.Item.sort_key M.Item.SortKey.cmp M.first_key M.FirstKey.cmp x item ≡ Equal
-            → meter.new ≤ meter.old + 1) }
+        // If the sort key stays, one comparison is all.
+        ensures asked_once { IfOk result (λ x. ComparesOnceIf
+            (SharePlace (by_sort M.Item.sort_key M.Item.SortKey.cmp M.first_key M.FirstKey.cmp) x item) meter.old meter.new) }
         ensures costs { SearchesFirst (M.hashes self.old.builder) (bag self.old) self.old.capacity item costs.old costs.new }
     {
         match self.map.slot_of_all(&item, costs) {
@@ -63,7 +65,7 @@ where
     }
 
     /// Puts an item in the place of the one of this slot, which has the same keys. If the sort key stays, it compares once, and
-    /// nothing in the order changes.
+    /// no entry of the order changes.
     fn exchange(&mut self, slot: ItemIndex, item: M::Item, meter: &mut Meter) -> M::Item
         requires live { IsLive self.old.slots slot }
         requires same_keys { (x : M.Item) → get self.old.slots slot ≡ Some x → agrees M.ranks x item ≡ true }
@@ -74,8 +76,8 @@ where
         ensures capacity { self.new.capacity ≡ self.old.capacity }
         ensures builder { self.new.builder ≡ self.old.builder }
         ensures asked { (r : ℕ) → length (items self.old) < 4 ^ r → meter.new ≤ meter.old + (6 * r + 40) }
-        ensures kept { by_sort M.Item.sort_key M.Item.SortKey.cmp M.first_key M.FirstKey.cmp result item ≡ Equal
-            → meter.new ≤ meter.old + 1 }
+        ensures asked_once { ComparesOnceIf
+            (SharePlace (by_sort M.Item.sort_key M.Item.SortKey.cmp M.first_key M.FirstKey.cmp) result item) meter.old meter.new }
     {
         if self.is_level(slot, &item, meter) {
             self.put_level(slot, item)

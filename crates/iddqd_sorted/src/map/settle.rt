@@ -8,6 +8,7 @@ ghost use Rattle.iddqd_store.specs.Bag.{conflicts_of};
 ghost use Rattle.iddqd_store.specs.Slots.{contents, get, IsLive};
 ghost use Rattle.iddqd_sorted.specs.Entries.{IsListed};
 ghost use Rattle.iddqd_sorted.specs.Items.{by_sort};
+ghost use Rattle.iddqd_sorted.specs.Keeping.{ComparesOnceIf};
 ghost use Rattle.iddqd_sorted.specs.Settled.{ListsBefore, ListsOthers, Resettles, Settles};
 ghost use Rattle.iddqd_sorted.specs.declared.entry.Entry.{Entry};
 
@@ -83,7 +84,7 @@ where
     }
 
     /// Brings the entry of a slot whose item changed, but for its first key, to the place of the item: `before` was its sort key. If the
-    /// sort key stayed, it compares once, and no entry changes. Among fewer than `4 ^ r` entries it compares at most
+    /// sort key stayed, it compares once, and no entry changes. Otherwise, among fewer than `4 ^ r` entries, it compares at most
     /// `6 * r + 38` sort keys. It asks for no memory.
     pub(crate) fn resettle_changed(
         map: &M,
@@ -101,8 +102,8 @@ where
             (M.shown map.now).slots slot (line order.old.blocks) (line order.new.blocks) }
         ensures capacity { order.new.capacity ≡ order.old.capacity }
         ensures asked { (r : ℕ) → length (line order.old.blocks) < 4 ^ r → meter.new ≤ meter.old + (6 * r + 38) }
-        ensures kept { (x : M.Item) → get (M.shown map.now).slots slot ≡ Some x → M.Item.SortKey.cmp before (M.Item.sort_key x) ≡ Equal
-            → meter.new ≤ meter.old + 1 }
+        ensures asked_once { (x : M.Item) → get (M.shown map.now).slots slot ≡ Some x
+            → ComparesOnceIf (M.Item.SortKey.cmp before (M.Item.sort_key x) ≡ Equal) meter.old meter.new }
     {
         meter.tick();
         let after = map.slots().item(slot).sort_key();

@@ -2,9 +2,9 @@
 ghost use Rattle.std.specs.Prelude.{◌≡◌, ℕ, ◌+◌, ◌*◌, ◌^◌, ◌<◌, ◌≤◌, true, false, length, Some};
 ghost use Rattle.std.specs.Fn.{FnOnceReturnsAt, FnOnceTakesAt};
 ghost use Rattle.std.specs.List.{list_any};
-ghost use Rattle.std.specs.declared.cmp.Ordering.TheVariants.{Equal};
 ghost use Rattle.iddqd_store.specs.Bag.{IsOnly};
 ghost use Rattle.iddqd_sorted.specs.Items.{items, by_sort};
+ghost use Rattle.iddqd_sorted.specs.Keeping.{ComparesOnceIf, KeepsSortKey};
 ghost use Rattle.iddqd_sorted.specs.Keyed.{MapsOne, StoresOne};
 
 use super::Sorted;
@@ -20,8 +20,9 @@ where
     /// moves the item to the place of its sort key, which may have changed. Returns whether there is such an item. If not, `f`
     /// is not called, and nothing changes. The capacity stays.
     ///
-    /// The call hashes the query and searches for it once. Among fewer than `4 ^ r` items it compares at most `6 * r + 40` sort
-    /// keys, and the old one with the new one alone if the sort key stays. It allocates no memory, and writes no table.
+    /// The call hashes the query and searches for it once. If the sort key stays, it compares this key once, and nothing moves in
+    /// the order. Otherwise, among fewer than `4 ^ r` items, it compares at most `6 * r + 40` sort keys. It allocates no memory, and
+    /// writes no table.
     pub(crate) fn update_by<
         R,
         Q: Query<<M as FindsBy<R>>::Key>,
@@ -47,9 +48,8 @@ where
         ensures builder { self.new.builder ≡ self.old.builder }
         ensures asked { (r : ℕ) → length (items self.old) < 4 ^ r → meter.new ≤ meter.old + (6 * r + 40) }
         // If the sort key stays, one comparison is all.
-        ensures kept { ((x : M.Item) (d : M.Data) → IsOnly (λ y. Q.stands_for query (⟦<M as FindsBy<R>>⟧.key y)) (items self.old) (Some x)
-            → FnOnceReturnsAt F.FnOnce f x d → M.Item.SortKey.cmp (M.Item.sort_key x) (M.Item.sort_key (⟦<M as StoresData>⟧.put x d)) ≡ Equal)
-            → meter.new ≤ meter.old + 1 }
+        ensures asked_once { ComparesOnceIf (KeepsSortKey (FnOnceReturnsAt F.FnOnce f) ⟦<M as StoresData>⟧.put M.Item.sort_key M.Item.SortKey.cmp
+            (λ y. Q.stands_for query (⟦<M as FindsBy<R>>⟧.key y)) (items self.old)) meter.old meter.new }
     {
         let Some((slot, _)) = self.map.slot_by(query, costs) else {
             return false;

@@ -61,8 +61,9 @@ where
     /// for, and `Duplicate` if some other item conflicts with the new one.
     ///
     /// The call hashes the query and searches for it once, and hashes each key of the new item and searches for it once. It also
-    /// hashes those keys of the old item that the new one does not have. Among fewer than `4 ^ r` items it compares at most
-    /// `6 * r + 40` sort keys. It allocates no memory, and the capacity stays.
+    /// hashes those keys of the old item that the new one does not have. If the sort key and the key stay, it compares this sort
+    /// key once, and nothing moves in the order. Otherwise, among fewer than `4 ^ r` items, it compares at most `6 * r + 40` sort
+    /// keys. It allocates no memory, and the capacity stays.
     pub fn rekey<Q: Query<T::Key>>(&mut self, query: Q, item: T) -> Result<T, NotReplaced<T>>
         ensures found { IfOk result (λ x. IsOnly (has T.IdHashItem Q.stands_for query) (items self.old) (Some x)) }
         ensures puts { OnOk result (items self.new ≡ with_item (by_sort T.sort_key T.SortKey.cmp T.key T.Key.cmp)
@@ -90,8 +91,9 @@ where
     /// to the place of its sort key, which may have changed. Returns whether there is such an item. If not, `f` is not called, and
     /// nothing changes.
     ///
-    /// The call hashes the query and searches for it once. Among fewer than `4 ^ r` items it compares at most `6 * r + 40` sort keys.
-    /// It allocates no memory, and writes no table.
+    /// The call hashes the query and searches for it once. If the sort key stays, it compares this key once, and nothing moves in the
+    /// order. Otherwise, among fewer than `4 ^ r` items, it compares at most `6 * r + 40` sort keys. It allocates no memory, and writes
+    /// no table.
     ///
     /// `sessions.update(&key, |session| now)`
     pub fn update<Q: Query<T::Key>, F: FnOnce(&T) -> T::Data>(&mut self, query: Q, f: F) -> bool

@@ -117,8 +117,9 @@ where
     /// for, and `Duplicate` if some other item conflicts with the new one.
     ///
     /// The call hashes the query and searches for it once, and hashes each key of the new item and searches for it once. It also
-    /// hashes those keys of the old item that the new one does not have. Among fewer than `4 ^ r` items it compares at most
-    /// `6 * r + 40` sort keys. It allocates no memory, and the capacity stays.
+    /// hashes those keys of the old item that the new one does not have. If the sort key and the first key stay, it compares this sort
+    /// key once, and nothing moves in the order. Otherwise, among fewer than `4 ^ r` items, it compares at most `6 * r + 40` sort
+    /// keys. It allocates no memory, and the capacity stays.
     pub fn rekey1<Q: Query<T::K1>>(&mut self, query: Q, item: T) -> Result<T, NotReplaced<T>>
         ensures found { IfOk result (λ x. IsOnly (has1 T.TriHashItem Q.stands_for query) (items self.old) (Some x)) }
         ensures puts { OnOk result (items self.new ≡ with_item (by_sort T.sort_key T.SortKey.cmp T.key1 T.K1.cmp)
@@ -142,8 +143,9 @@ where
     /// for, and `Duplicate` if some other item conflicts with the new one.
     ///
     /// The call hashes the query and searches for it once, and hashes each key of the new item and searches for it once. It also
-    /// hashes those keys of the old item that the new one does not have. Among fewer than `4 ^ r` items it compares at most
-    /// `6 * r + 40` sort keys. It allocates no memory, and the capacity stays.
+    /// hashes those keys of the old item that the new one does not have. If the sort key and the first key stay, it compares this sort
+    /// key once, and nothing moves in the order. Otherwise, among fewer than `4 ^ r` items, it compares at most `6 * r + 40` sort
+    /// keys. It allocates no memory, and the capacity stays.
     pub fn rekey2<Q: Query<T::K2>>(&mut self, query: Q, item: T) -> Result<T, NotReplaced<T>>
         ensures found { IfOk result (λ x. IsOnly (has2 T.TriHashItem Q.stands_for query) (items self.old) (Some x)) }
         ensures puts { OnOk result (items self.new ≡ with_item (by_sort T.sort_key T.SortKey.cmp T.key1 T.K1.cmp)
@@ -167,8 +169,9 @@ where
     /// for, and `Duplicate` if some other item conflicts with the new one.
     ///
     /// The call hashes the query and searches for it once, and hashes each key of the new item and searches for it once. It also
-    /// hashes those keys of the old item that the new one does not have. Among fewer than `4 ^ r` items it compares at most
-    /// `6 * r + 40` sort keys. It allocates no memory, and the capacity stays.
+    /// hashes those keys of the old item that the new one does not have. If the sort key and the first key stay, it compares this sort
+    /// key once, and nothing moves in the order. Otherwise, among fewer than `4 ^ r` items, it compares at most `6 * r + 40` sort
+    /// keys. It allocates no memory, and the capacity stays.
     pub fn rekey3<Q: Query<T::K3>>(&mut self, query: Q, item: T) -> Result<T, NotReplaced<T>>
         ensures found { IfOk result (λ x. IsOnly (has3 T.TriHashItem Q.stands_for query) (items self.old) (Some x)) }
         ensures puts { OnOk result (items self.new ≡ with_item (by_sort T.sort_key T.SortKey.cmp T.key1 T.K1.cmp)
@@ -196,8 +199,9 @@ where
     /// to the place of its sort key, which may have changed. Returns whether there is such an item. If not, `f` is not called, and
     /// nothing changes.
     ///
-    /// The call hashes the query and searches for it once. Among fewer than `4 ^ r` items it compares at most `6 * r + 40` sort keys.
-    /// It allocates no memory, and writes no table.
+    /// The call hashes the query and searches for it once. If the sort key stays, it compares this key once, and nothing moves in the
+    /// order. Otherwise, among fewer than `4 ^ r` items, it compares at most `6 * r + 40` sort keys. It allocates no memory, and writes
+    /// no table.
     ///
     /// `sessions.update1(&key, |session| now)`
     pub fn update1<Q: Query<T::K1>, F: FnOnce(&T) -> T::Data>(&mut self, query: Q, f: F) -> bool
@@ -224,8 +228,9 @@ where
     /// to the place of its sort key, which may have changed. Returns whether there is such an item. If not, `f` is not called, and
     /// nothing changes.
     ///
-    /// The call hashes the query and searches for it once. Among fewer than `4 ^ r` items it compares at most `6 * r + 40` sort keys.
-    /// It allocates no memory, and writes no table.
+    /// The call hashes the query and searches for it once. If the sort key stays, it compares this key once, and nothing moves in the
+    /// order. Otherwise, among fewer than `4 ^ r` items, it compares at most `6 * r + 40` sort keys. It allocates no memory, and writes
+    /// no table.
     ///
     /// `sessions.update2(&key, |session| now)`
     pub fn update2<Q: Query<T::K2>, F: FnOnce(&T) -> T::Data>(&mut self, query: Q, f: F) -> bool
@@ -252,8 +257,9 @@ where
     /// to the place of its sort key, which may have changed. Returns whether there is such an item. If not, `f` is not called, and
     /// nothing changes.
     ///
-    /// The call hashes the query and searches for it once. Among fewer than `4 ^ r` items it compares at most `6 * r + 40` sort keys.
-    /// It allocates no memory, and writes no table.
+    /// The call hashes the query and searches for it once. If the sort key stays, it compares this key once, and nothing moves in the
+    /// order. Otherwise, among fewer than `4 ^ r` items, it compares at most `6 * r + 40` sort keys. It allocates no memory, and writes
+    /// no table.
     ///
     /// `sessions.update3(&key, |session| now)`
     pub fn update3<Q: Query<T::K3>, F: FnOnce(&T) -> T::Data>(&mut self, query: Q, f: F) -> bool

@@ -1,5 +1,4 @@
-use Rattle.std.proofs.Common.{◌≡◌, ◌∙◌, Some, sym, ap, arith}
-use Rattle.iddqd_store.specs.Slots.{get}
+use Rattle.std.proofs.Common.{◌≡◌, ◌∙◌, Some, sym, ap}
 use Rattle.iddqd_order.specs.Row.{line, position}
 use Rattle.iddqd_order.proofs.PlaceLemmas.{position-below}
 use Rattle.iddqd_sorted.proofs.Changed.{live_changed, changed_searchable, changed_gap, changed_slot}

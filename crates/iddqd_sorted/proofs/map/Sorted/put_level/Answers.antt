@@ -1,4 +1,4 @@
-use Rattle.std.proofs.Common.{◌≡◌, ◌∙◌, Some, ap, arith}
+use Rattle.std.proofs.Common.{◌∙◌, Some, ap, arith}
 use Rattle.std.specs.Prelude.{slice_set}
 use Rattle.iddqd_store.specs.Map.{Map}
 use Rattle.iddqd_store.specs.Map.Written.{of_item}

@@ -86,8 +86,8 @@ pub returns-in-Err-clause-costs : goal.returns-in-Err-clause-costs
 returns-in-Err-clause-costs g c = rw (← c.self.view_is) (rekeying _ (omega arith) c.in-Some.ensures.costs c.rekey_at.ensures.costs)
 
 -- an item that moves is not level with the old one
-pub returns-in-Ok-clause-kept : goal.returns-in-Ok-clause-kept
-returns-in-Ok-clause-kept g c = λ level.
+pub returns-in-Ok-clause-asked_once : goal.returns-in-Ok-clause-asked_once
+returns-in-Ok-clause-asked_once g c = λ level.
     (let told = c.is_level.ensures.value c.in-Ok.gone (rw (← c.self.view_is) c.in-Ok.ensures.value) in
     let moves : c.is_level.result ≡ false = search rules in
     absurd (false≢true (sym moves ∙ (told ∙ ap is_eq level))))

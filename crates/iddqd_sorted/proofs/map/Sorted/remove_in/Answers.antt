@@ -1,4 +1,4 @@
-use Rattle.std.proofs.Common.{◌≡◌, ◌+◌, map, None, subst, arith}
+use Rattle.std.proofs.Common.{◌≡◌, ◌+◌, None, subst, arith}
 use Rattle.std.proofs.lemmas.List.Sorted.{length_permutation}
 use Rattle.iddqd_store.specs.Slots.{Updates, live_count}
 use Rattle.iddqd_store.proofs.SlotLemmas.Contents.{length-contents}

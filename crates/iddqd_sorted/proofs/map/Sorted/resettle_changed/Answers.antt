@@ -1,4 +1,4 @@
-use Rattle.std.proofs.Common.{◌≡◌, ◌∙◌, Some, sym, ap, arith}
+use Rattle.std.proofs.Common.{◌≡◌, ◌∙◌, Some, sym, ap}
 use Rattle.iddqd_order.specs.Row.{line, position}
 use Rattle.iddqd_sorted.proofs.Changed.{others_changed, resettled_kept}
 use Rattle.iddqd_sorted.proofs.map.Sorted.resettle_changed.Goals as goal

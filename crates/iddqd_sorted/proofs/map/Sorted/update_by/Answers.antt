@@ -95,8 +95,8 @@ returns-clause-asked g c = λ r few.
     let entries = long all g.M.Item.Sortable.sort_key (g.M.SlotMap.shown c.self.inside.map).slots (line c.self.inside.order.blocks) c.self.invariant in
     omega (arith, c.resettle_changed.ensures.asked r (omega (arith, entries, few_items))))
 
-pub returns-clause-kept : goal.returns-clause-kept
-returns-clause-kept g c = λ stays.
+pub returns-clause-asked_once : goal.returns-clause-asked_once
+returns-clause-asked_once g c = λ stays.
     (let all = total g.M.Item.Sortable.sort_key g.met.M.Item.SortKey.Ord.total g.M.SlotMap.first_key g.met.M.FirstKey.Ord.total in
     let x = c.item-2.result.now in
     let there = rw c.slots-2.ensures at c.item-2.ensures in
@@ -105,5 +105,5 @@ returns-clause-kept g c = λ stays.
     let same : c.item.result.now ≡ x = cc one in
     let updates = written_updates (g.M.SlotMap.shown c.self.inside.map) (g.M.SlotMap.shown c.store_at.new.self) _ (λ z. g.M.StoresData.put z c.f-d.result) x there c.store_at.ensures.stores in
     let tie = stays x c.f-d.result (rw (← c.self.view_is) (only_some all g.M.Item.Sortable.sort_key (g.M.SlotMap.shown c.self.inside.map).slots (line c.self.inside.order.blocks) c.self.invariant _ _ c.in-Some.ensures.found x there)) (c.item-2.result, c.f-d.ensures, refl) in
-    c.resettle_changed.ensures.kept (g.M.StoresData.put x c.f-d.result) updates.changed
+    c.resettle_changed.ensures.asked_once (g.M.StoresData.put x c.f-d.result) updates.changed
     (ap (λ z. g.M.Item.SortKey.Ord.cmp z (g.M.Item.Sortable.sort_key (g.M.StoresData.put x c.f-d.result))) (c.sort_key-before.ensures ∙ ap g.M.Item.Sortable.sort_key same) ∙ tie))
