@@ -365,7 +365,14 @@ fn main() {
         "--cargo needs the program that bench/run and bench/beside build for it, which of --others has the loops of --ordered alone"
     );
     if wanted.whole {
-        let all = [book::program(), sessions::program()];
+        let mut all = vec![book::program(), sessions::program()];
+        all.retain_mut(|program| {
+            let of = program.name;
+            program
+                .forms
+                .retain(|(name, _)| wanted.has(&format!("{of}: {name}")));
+            !program.forms.is_empty()
+        });
         programs::print(&all, wanted.plan.rounds);
         return;
     }
