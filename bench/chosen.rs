@@ -48,15 +48,11 @@ fn time(exported: Exported<2>, rows: &[Row<2>]) -> f64 {
 
 /// Prints a table of the times for each item.
 pub fn print() {
-    println!(
-        "{}: the least of {TURNS} turns was taken.\n",
-        report::machine()
-    );
+    let began = report::machine();
     let spread = rows::<2>(0, ITEMS);
     let together = of_one_home(&spread);
     let items = report::grouped(ITEMS);
-    println!("| {items} items, nanoseconds an item | default builder | random seed |");
-    println!("|---|---|---|");
+    let mut lines = Vec::new();
     let loops: [(&str, Exported<2>, Exported<2>); 2] = [
         (
             "insert with room",
@@ -75,7 +71,11 @@ pub fn print() {
             ("keys of one home bucket", &together),
         ] {
             let (here, there) = (time(default, rows), time(seeded, rows));
-            println!("| {name}, {keys} | {here:.0} | {there:.0} |");
+            lines.push(format!("| {name}, {keys} | {here:.0} | {there:.0} |"));
         }
     }
+    let how = format!("the least of {TURNS} turns was taken");
+    println!("{}\n", report::circumstances(&began, &how));
+    println!("| {items} items, nanoseconds an item | default builder | random seed |");
+    println!("|---|---|---|\n{}", lines.join("\n"));
 }

@@ -21,8 +21,11 @@
 //!                     --others, times it with items of 128 bytes and with text keys
 //!     --sorted        times the maps with hashed keys and an order, and nothing else; with --memory, counts their bytes
 //!     --cargo         times the maps as cargo builds them, which are `here` then, beside their proved build and std, and prints
-//!                     the tables of docs/SPEED.md; of the maps with an order it has the one with two keys
+//!                     the tables of docs/SPEED.md: of the hash maps, or with --ordered (and --others) or --sorted of these
+//!     --whole         times whole programs, an order book and sessions that expire, as often as --rounds says; with --cargo,
+//!                     over the maps of both builds
 //!     --chosen        prints what keys with one home bucket cost under the default builder and a random seed
+mod book;
 mod by_hand;
 mod calls;
 mod chosen;
@@ -40,8 +43,10 @@ mod ordered_others;
 mod others;
 mod picture;
 mod processors;
+mod programs;
 mod report;
 mod rows;
+mod sessions;
 mod sorted;
 mod workload;
 
@@ -51,7 +56,7 @@ extern crate cargo_loops as _;
 use measure::{Plan, print_once};
 use operations::{Kind, Operation};
 use report::{Map, map_name};
-use rows::{OF_EACH, OF_TWO, OF_TWO_BY_CARGO, ON_PAGE, SIZES};
+use rows::{OF_A_MILLION, OF_EACH, OF_TWO, OF_TWO_BY_CARGO, ON_PAGE, SIZES};
 
 /// The name of the ordered map.
 const ORDERED: &str = "IdOrdMap";
@@ -74,6 +79,7 @@ struct Wanted {
     ordered: bool,
     sorted: bool,
     cargo: bool,
+    whole: bool,
     picture: Option<String>,
 }
 
@@ -120,6 +126,7 @@ fn wanted(mut words: impl Iterator<Item = String>) -> Wanted {
             "--ordered" => wanted.ordered = true,
             "--sorted" => wanted.sorted = true,
             "--cargo" => wanted.cargo = true,
+            "--whole" => wanted.whole = true,
             "--svg" => wanted.picture = Some(behind(&mut words, &word)),
             _ if word.starts_with(|c: char| c.is_ascii_digit()) => {
                 wanted.sizes = Some(word.split(',').map(size).collect());
@@ -177,8 +184,7 @@ impl Wanted {
             let is_kind = match it.kind {
                 Kind::Held => false,
                 Kind::All => true,
-                Kind::Anew => !self.growth && !self.cargo,
-                Kind::Each | Kind::Own => !self.growth,
+                Kind::Anew | Kind::Each | Kind::Own => !self.growth,
             };
             is_kind && self.has_map(N) && self.has(it.name)
         });
@@ -197,8 +203,12 @@ impl Wanted {
         sizes: &[usize],
     ) -> Option<Map> {
         let picked = self.picked(all);
+        let mut plan = self.plan;
+        if self.sorted && self.sizes.is_none() {
+            plan.of_a_million = &OF_A_MILLION;
+        }
         let is_some = !picked.is_empty() && !sizes.is_empty();
-        is_some.then(|| report::measured(name, &picked, sizes, self.plan))
+        is_some.then(|| report::measured(name, &picked, sizes, plan))
     }
 
     /// Measures the maps.
@@ -223,14 +233,6 @@ impl Wanted {
             () if self.ordered => ordered(ordered::operations()),
             () if self.sorted => sorted(),
             () if self.others => vec![self.measured(map_name(2), others::operations(), sizes)],
-            () if self.cargo => {
-                // With more items these rows take minutes.
-                let mut fewer = sizes.to_vec();
-                fewer.retain(|items| *items <= 100_000);
-                let two = self.measured(sorted::NAMES[1], sorted::two(), &fewer);
-                let kinds = [hashed(), ordered(ordered::operations()), vec![two]];
-                kinds.into_iter().flatten().collect()
-            }
             () => hashed(),
         };
         all.into_iter().flatten().collect()
@@ -242,13 +244,13 @@ impl Wanted {
             () if self.growth => &[1_000, 10_000, 100_000, 1_000_000],
             () if self.page => &ON_PAGE,
             () if self.ordered && self.others => &ordered_others::SIZES,
-            () if self.ordered || self.cargo => &ordered::SIZES,
             () if self.sorted => &sorted::SIZES,
+            () if self.ordered || self.cargo => &ordered::SIZES,
             () => &SIZES,
         });
         let began = report::machine();
         let maps = self.maps(&sizes);
-        println!("{}\n", report::circumstances(&began, self.plan));
+        println!("{}\n", report::circumstances(&began, &self.plan.said()));
         if self.growth {
             maps.iter().for_each(|map| map.print_times());
         } else if self.table || self.page || self.cargo {
@@ -357,9 +359,22 @@ fn main() {
         chosen::print();
         return;
     }
+    let has_loops = !(wanted.cargo && wanted.others) || wanted.ordered;
     assert!(
-        wanted.cargo == cfg!(feature = "cargo") && !(wanted.cargo && wanted.others),
-        "--cargo needs the program that bench/run and bench/beside build for it, which has no loops of --others"
+        wanted.cargo == cfg!(feature = "cargo") && has_loops,
+        "--cargo needs the program that bench/run and bench/beside build for it, which of --others has the loops of --ordered alone"
     );
+    if wanted.whole {
+        let mut all = vec![book::program(), sessions::program()];
+        all.retain_mut(|program| {
+            let of = program.name;
+            program
+                .forms
+                .retain(|(name, _)| wanted.has(&format!("{of}: {name}")));
+            !program.forms.is_empty()
+        });
+        programs::print(&all, wanted.plan.rounds);
+        return;
+    }
     wanted.print();
 }

@@ -11,13 +11,19 @@ pub struct Plan {
     pub rounds: usize,
     /// The number of turns in a round, of which the least time counts, for up to 10,000 items.
     pub turns: usize,
+    /// The operations that alone are timed with a million items and more. If there are none, all are.
+    pub of_a_million: &'static [&'static str],
 }
+
+/// How many nanoseconds the turns of a round take before it ends, if one was made.
+const LONG: f64 = 5e8;
 
 impl Default for Plan {
     fn default() -> Plan {
         Plan {
             rounds: 3,
             turns: 20,
+            of_a_million: &[],
         }
     }
 }
@@ -31,6 +37,24 @@ impl Plan {
             _ => 20,
         };
         (self.turns / part).max(1)
+    }
+
+    /// Returns whether an operation is timed with so many items.
+    fn has(&self, operation: &str, items: usize) -> bool {
+        items < 1_000_000 || self.of_a_million.is_empty() || self.of_a_million.contains(&operation)
+    }
+
+    /// Says how often the operations are measured.
+    pub fn said(&self) -> String {
+        let rounds = match self.rounds {
+            1 => "one round, in which".to_string(),
+            rounds => format!("the medians of {rounds} rounds, in each of which"),
+        };
+        let fewer = "fewer above 10,000 items, and where they take half a second";
+        format!(
+            "{rounds} the least of {} turns was taken ({fewer})",
+            self.turns
+        )
     }
 }
 
@@ -81,9 +105,9 @@ impl Figures {
         spread(sound.map(|(here, other)| here / other).collect())
     }
 
-    /// Returns whether a side has the operation.
+    /// Returns whether a side has the operation, and it was timed.
     pub fn has(&self, side: usize) -> bool {
-        self.0[side].is_some()
+        !self.of(side).is_empty()
     }
 }
 
@@ -167,7 +191,11 @@ fn round<const N: usize>(
     let sides: Vec<&str> = [HERE].into_iter().chain(others).collect();
     // The least times of each side: of what prepares the loop, and of the whole loop.
     let mut least = vec![[f64::MAX; 2]; sides.len()];
+    let mut spent = 0.0;
     for turn in 0..plan.turns(items) {
+        if LONG < spent {
+            break;
+        }
         if turn % TURNS_IN_PLACE == 0 {
             take_fastest();
         }
@@ -180,6 +208,7 @@ fn round<const N: usize>(
                     _ => time(operation, &load, side, whole),
                 };
                 least[usize::from(whole)] = took.min(least[usize::from(whole)]);
+                spent += took;
                 sums.push(sum);
             }
             let equal = sums.iter().all(|sum| *sum == sums[0]);
@@ -206,7 +235,8 @@ pub fn measure<const N: usize>(
     for made in 1..=plan.rounds {
         for (at, items) in sizes.iter().copied().enumerate() {
             eprintln!("{N} keys, {items} items: round {made} of {}", plan.rounds);
-            for (operation, figures) in operations.iter().zip(&mut figures) {
+            let timed = operations.iter().zip(&mut figures);
+            for (operation, figures) in timed.filter(|it| plan.has(it.0.name, items)) {
                 round(operation, items, plan, &mut figures[at]);
             }
         }

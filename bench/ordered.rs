@@ -6,7 +6,7 @@ use crate::measure::ran;
 use crate::operations::{Kind, Loop, Operation, sides};
 use crate::workload::{Row, Workload};
 use crate::workload::{
-    asked_again, exchanged, fresh, grown, missed, reordered, repeated, rows, shuffled,
+    asked_again, doubled, exchanged, fresh, grown, missed, reordered, repeated, rows, shuffled,
 };
 use std::cmp::Reverse;
 use std::collections::btree_map::Entry;
@@ -52,6 +52,32 @@ fn insert(load: &Workload<1>, whole: bool) -> u64 {
     each_map(load, |rows, _| {
         let map = filled(if whole { rows } else { &[] });
         said(map.values().next().copied())
+    })
+}
+
+/// Returns what is summed of a map that was filled by one call.
+fn summed(map: &Map) -> u64 {
+    said(map.values().next().copied()).wrapping_add(map.len() as u64)
+}
+
+/// Returns what the map has of a row.
+fn pair(row: &Row<1>) -> (u64, Row<1>) {
+    (row.keys[0], *row)
+}
+
+fn collect(load: &Workload<1>, whole: bool) -> u64 {
+    each_map(load, |rows, _| {
+        let made = whole.then(|| rows.iter().map(pair).collect());
+        made.map_or(0, |map| summed(&map))
+    })
+}
+
+fn extend(load: &Workload<1>, whole: bool) -> u64 {
+    each_map(load, |rows, _| {
+        let (there, more) = rows.split_at(rows.len() / 2);
+        let mut map = filled(there);
+        map.extend(if whole { more } else { &[] }.iter().map(pair));
+        summed(&map)
     })
 }
 
@@ -256,6 +282,10 @@ operations! {
     Each "insert": fresh, insert;
     Each "insert, ascending": |items| ascending(fresh(items)), insert;
     Each "insert, descending": |items| descending(fresh(items)), insert;
+    All "collect": fresh, collect;
+    All "collect, ascending": |items| ascending(fresh(items)), collect;
+    All "extend by as many": doubled, extend;
+    All "extend by as many, ascending": |items| ascending(doubled(items)), extend;
     Each "removal": reordered, remove;
     Each "removal and insert": exchanged, remove_insert;
     Each "rekey to the end": rekeyed_last, rekey;

@@ -1,16 +1,17 @@
-//! The ordered map with other items: items of 128 bytes, and items whose key is a text. One side has the loops that
-//! `bench/loops` exports, and the other the same loops over a `BTreeMap`: from the number to the item, which has the number
-//! again, and from the text to the rest of the item.
+//! The ordered map with other items: items of 128 bytes, items whose key is a text, and items whose key is the first eight bytes of
+//! a text as a number, and then the text. One side has the loops that `bench/loops` exports, and the other the same loops over a
+//! `BTreeMap`: from the number to the item, which has the number again, and from the text to the rest of the item. The third kind
+//! of keys is timed beside a `BTreeMap` of texts, and beside one that has such keys too.
 use crate::calls::sum_of;
 use crate::loops::{asked, each_map};
-use crate::operations::{Kind, Operation, exported};
-use crate::workload::{Row, Workload, asked_again, fresh, missed, reordered};
+use crate::operations::{Kind, Loop, Operation, sides};
+use crate::workload::{Row, Workload, asked_again, digits, fresh, missed, reordered};
 use std::borrow::Borrow;
 use std::collections::BTreeMap;
 use std::collections::btree_map::Entry;
 
 /// The numbers of items.
-pub const SIZES: [usize; 2] = [1_000, 100_000];
+pub const SIZES: [usize; 3] = [1_000, 10_000, 100_000];
 
 /// A key, and what the map has for it.
 trait Pair: Sized {
@@ -59,20 +60,36 @@ impl Pair for Number {
 
     /// Makes a text of 10 to 40 digits, as `bench/loops` does.
     fn key_of(row: &Row<1>) -> String {
-        let len = 10 + (row.keys[0] % 31) as usize;
-        let mut text = String::with_capacity(len);
-        let mut rest = row.keys[0];
-        for _ in 0..len {
-            rest = rest
-                .wrapping_mul(0x5851_F42D_4C95_7F2D)
-                .wrapping_add(0x1405_7B7E_F767_814F);
-            text.push(char::from(b'0' + ((rest >> 33) % 10) as u8));
-        }
-        text
+        digits(row.keys[0], 10 + (row.keys[0] % 31) as usize)
     }
 
     fn from_row(row: &Row<1>) -> (String, Number) {
         (Number::key_of(row), Number(row.keys[0]))
+    }
+
+    fn told(&self) -> u64 {
+        self.0
+    }
+
+    fn gone(self) -> u64 {
+        self.0
+    }
+}
+
+/// The number of an item whose text has its first eight bytes before it as a number.
+struct Headed(u64);
+
+impl Pair for Headed {
+    type Key = (u64, String);
+
+    fn key_of(row: &Row<1>) -> (u64, String) {
+        let text = Number::key_of(row);
+        let head = text.as_bytes().first_chunk();
+        (u64::from_be_bytes(*head.expect("ten digits")), text)
+    }
+
+    fn from_row(row: &Row<1>) -> ((u64, String), Headed) {
+        (Headed::key_of(row), Headed(row.keys[0]))
     }
 
     fn told(&self) -> u64 {
@@ -167,15 +184,18 @@ fn remove_large(load: &Workload<1>, whole: bool) -> u64 {
 }
 
 macro_rules! operations {
-    ($($name:literal: $load:expr, $other:expr, $exported:ident;)*) => {
+    ($($name:literal: $load:expr, $other:expr, $loop:ident;)*) => {
         /// All of them.
         pub fn operations() -> Vec<Operation<1>> {
-            vec![$(Operation {
-                name: $name,
-                kind: Kind::Each,
-                load: $load,
-                exported: exported!("ord", $exported, 1),
-                others: vec![("std", Some($other))],
+            vec![$({
+                let (exported, others) = sides!(("std", Some($other as Loop<1>)); "ord", $loop, 1);
+                Operation {
+                    name: $name,
+                    kind: Kind::Each,
+                    load: $load,
+                    exported,
+                    others,
+                }
             }),*]
         }
     };
@@ -190,4 +210,12 @@ operations! {
     "text keys: look-up, miss": missed, get::<Number, str>, get_texts;
     "text keys: insert": fresh, insert::<Number>, insert_texts;
     "text keys: removal": reordered, remove::<Number, str>, remove_texts;
+    "number and text: look-up, hit": asked_again, get::<Number, str>, get_headed;
+    "number and text: look-up, miss": missed, get::<Number, str>, get_headed;
+    "number and text: insert": fresh, insert::<Number>, insert_headed;
+    "number and text: removal": reordered, remove::<Number, str>, remove_headed;
+    "both so: look-up, hit": asked_again, get::<Headed, (u64, String)>, get_headed;
+    "both so: look-up, miss": missed, get::<Headed, (u64, String)>, get_headed;
+    "both so: insert": fresh, insert::<Headed>, insert_headed;
+    "both so: removal": reordered, remove::<Headed, (u64, String)>, remove_headed;
 }

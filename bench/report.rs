@@ -181,7 +181,7 @@ pub fn print_table(maps: &[Map], together: bool) {
     };
     let at = grouped(sizes[place_of_time(sizes)]);
     println!("`ns`: here, at {at}. `~`: a round's ratio is over 1.5 times another's.");
-    println!("`?`: lost in noise. `-`: no such call.\n\n```");
+    println!("`?`: lost in noise. `-`: no such call, or not timed.\n\n```");
     for (i, map) in maps.iter().enumerate() {
         let sides: Vec<usize> = (1..=map.others.len()).collect();
         let parts: Vec<&[usize]> = if together {
@@ -272,14 +272,6 @@ pub fn machine() -> String {
 }
 
 /// Returns how the figures were measured, after what `machine` returned when that began.
-pub fn circumstances(began: &str, plan: Plan) -> String {
-    let rounds = match plan.rounds {
-        1 => "one round, in which".to_string(),
-        rounds => format!("the medians of {rounds} rounds, in each of which"),
-    };
-    format!(
-        "{began}, {} when it ended: {rounds} the least of {} turns was taken (fewer above 10,000 items).",
-        load(),
-        plan.turns,
-    )
+pub fn circumstances(began: &str, how: &str) -> String {
+    format!("{began}, {} when it ended: {how}.", load())
 }

@@ -57,3 +57,16 @@ pub const OF_TWO_BY_CARGO: [&str; 8] = [
     "update_all",
     "pop_from, all",
 ];
+
+/// The rows of the maps with hashed keys and an order that are timed with a million items, if the arguments name no sizes.
+pub const OF_A_MILLION: [&str; 9] = [
+    "look-up, hit",
+    "insert without room",
+    "insert at the end",
+    "collect",
+    "removal",
+    "replace, same sort key",
+    "touch, drawn",
+    "touch, filled in order",
+    "pop_to, all",
+];

@@ -6,11 +6,13 @@ use crate::calls::{Map, sum_of};
 use crate::loops::{asked, each_map};
 use crate::one_by_hand::OneByHand;
 use crate::operations::{Kind, Loop, Operation, sides};
-use crate::workload::{Row, Workload, asked_again, fresh, grown, mix, reordered, shuffled};
+use crate::workload::{
+    Row, Workload, asked_again, doubled, fresh, grown, mix, reordered, shuffled,
+};
 use std::collections::BTreeSet;
 
 /// The numbers of items.
-pub const SIZES: [usize; 2] = [1_000, 100_000];
+pub const SIZES: [usize; 4] = [1_000, 10_000, 100_000, 1_000_000];
 
 /// The names of the maps, by the number of their keys.
 pub const NAMES: [&str; 3] = ["IdHashOrdMap", "BiHashOrdMap", "TriHashOrdMap"];
@@ -67,8 +69,10 @@ impl<M> Sorted<M> {
         let old = *held;
         held.value = row.value;
         drop(held);
-        self.order.remove(&(old.value, row.keys[0]));
-        self.order.insert((row.value, row.keys[0]));
+        if old.value != row.value {
+            self.order.remove(&(old.value, row.keys[0]));
+            self.order.insert((row.value, row.keys[0]));
+        }
         Some(old)
     }
 
@@ -144,6 +148,44 @@ fn sorted_touch<const N: usize, M: Map<N>>(load: &Workload<N>, whole: bool) -> u
     sum_of(rows.map(|row| map.touch(row).map_or(0, |old| told(&old))))
 }
 
+fn sorted_update<const N: usize, M: Map<N>>(load: &Workload<N>, whole: bool) -> u64 {
+    let mut map = filled::<N, M>(load, &load.rows);
+    let rows = asked(load, whole).iter();
+    sum_of(rows.map(|row| u64::from(map.touch(row).is_some())))
+}
+
+/// Returns what is summed of a map that was filled by one call.
+fn summed<const N: usize, M: Map<N>>(map: &Sorted<M>) -> u64 {
+    let first = map.order.first();
+    let first = first.map_or(0, |(sort_key, key)| key.wrapping_add(*sort_key));
+    first.wrapping_add(map.map.len() as u64)
+}
+
+/// No row conflicts with another one.
+fn sorted_extend<const N: usize, M: Map<N>>(load: &Workload<N>, whole: bool) -> u64 {
+    each_map(load, |rows, _| {
+        let (there, more) = rows.split_at(rows.len() / 2);
+        let mut map = filled::<N, M>(load, there);
+        if whole {
+            map.map.reserve(more.len());
+            fill(&mut map, more);
+        }
+        summed(&map)
+    })
+}
+
+/// Makes the hash map of all rows, and then the order of its items.
+fn sorted_from_iter<const N: usize, M: Map<N>>(load: &Workload<N>, whole: bool) -> u64 {
+    each_map(load, |rows, _| {
+        if !whole {
+            return 0;
+        }
+        let map = M::from_rows(rows.iter().copied());
+        let order = map.iter().map(|row| (row.value, row.keys[0])).collect();
+        summed(&Sorted { map, order })
+    })
+}
+
 fn sorted_remove<const N: usize, M: Map<N>>(load: &Workload<N>, whole: bool) -> u64 {
     each_filled(load, whole, |map: &mut Sorted<M>, asked| {
         sum_of(
@@ -178,11 +220,36 @@ fn sorted<const N: usize>(mut load: Workload<N>, items: usize) -> Workload<N> {
     load
 }
 
+/// Gives each row a sort key that no other one has.
+fn distinct<const N: usize>(mut load: Workload<N>) -> Workload<N> {
+    for row in load.rows.iter_mut().chain(&mut load.asked) {
+        row.value = mix(row.keys[0]);
+    }
+    load
+}
+
+/// Gives each row that fills a map a sort key that is higher than all before it.
+fn in_order<const N: usize>(mut load: Workload<N>) -> Workload<N> {
+    for (at, row) in load.rows.iter_mut().enumerate() {
+        row.value = at as u64;
+    }
+    load
+}
+
 /// One map, and rows that give its items other sort keys, in many orders.
 fn touched<const N: usize>(items: usize) -> Workload<N> {
     let mut load = sorted(asked_again(items), items);
     for (at, row) in load.asked.iter_mut().enumerate() {
         row.value = mix(at as u64) % items as u64;
+    }
+    load
+}
+
+/// The same, where no two items ever have an equal sort key.
+fn touched_apart<const N: usize>(items: usize) -> Workload<N> {
+    let mut load = distinct(asked_again(items));
+    for (at, row) in load.asked.iter_mut().enumerate() {
+        row.value = mix(at as u64);
     }
     load
 }
@@ -199,11 +266,7 @@ fn touched_last<const N: usize>(items: usize) -> Workload<N> {
 /// One map whose items came in the order of their sort keys, as a cache is filled, and rows that give them sort keys, each of which is
 /// higher than all before it.
 fn touched_again<const N: usize>(items: usize) -> Workload<N> {
-    let mut load = touched_last(items);
-    for (at, row) in load.rows.iter_mut().enumerate() {
-        row.value = at as u64;
-    }
-    load
+    in_order(touched_last(items))
 }
 
 /// One map of groups, and rows with the sort keys that are asked for. The operations are counted by the items that are met.
@@ -242,9 +305,19 @@ macro_rules! operations {
                 operation!(Held "bytes", |items| sorted(grown(items), items), sorted_grow),
                 operation!(Each "look-up, hit", |items| sorted(asked_again(items), items), sorted_get),
                 operation!(Each "insert without room", |items| sorted(fresh(items), items), sorted_insert),
+                operation!(Each "insert, distinct", |items| distinct(fresh(items)), sorted_insert),
                 operation!(Each "insert with room", |items| sorted(fresh(items), items).reserved(items), sorted_insert),
+                operation!(Each "insert at the end", |items| in_order(fresh(items)), sorted_insert),
+                operation!(All "extend by as many", |items| sorted(doubled(items), items), sorted_extend),
+                operation!(All "collect", |items| sorted(fresh(items), items), sorted_from_iter),
                 operation!(Each "removal", |items| sorted(reordered(items), items), sorted_remove),
+                operation!(Each "removal, distinct", |items| distinct(reordered(items)), sorted_remove),
+                operation!(Each "replace, same sort key", |items| sorted(asked_again(items), items), sorted_touch),
+                operation!(Each "replace, same, distinct", |items| distinct(asked_again(items)), sorted_touch),
+                operation!(Each "update1, same sort key", |items| sorted(asked_again(items), items), sorted_update),
+                operation!(Each "update1, same, distinct", |items| distinct(asked_again(items)), sorted_update),
                 operation!(Each "touch, drawn", touched, sorted_touch),
+                operation!(Each "touch, drawn, distinct", touched_apart, sorted_touch),
                 operation!(Each "touch, to the end", touched_last, sorted_touch),
                 operation!(Each "touch, filled in order", touched_again, sorted_touch),
                 operation!(Each "pop_to, all", |items| sorted(reordered(items), items), sorted_pop_to),

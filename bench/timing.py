@@ -38,3 +38,8 @@ def machine():
         names = [line.split(":", 1)[1].strip() for line in file if line.startswith("model name")]
     processor, load = names[0] if names else "an unknown processor", os.getloadavg()[0]
     return f"On {now.tm_mday} {time.strftime('%B %Y', now)}, {processor}, load {load:.2f} when it began"
+
+
+def print_head(began, how):
+    """Prints when and on what machine runs were made, after what `machine` returned before them, and how."""
+    print(f"{began}, {os.getloadavg()[0]:.2f} when it ended: {how}.\n")

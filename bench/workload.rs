@@ -69,14 +69,28 @@ pub fn shuffled<T: Clone>(list: &[T], seed: usize) -> Vec<T> {
     list
 }
 
-/// Returns how many maps are filled, so that one loop takes about as long at each size.
+/// Makes a text of so many digits, which a number tells, as `bench/loops` does.
+pub fn digits(number: u64, len: usize) -> String {
+    let mut text = String::with_capacity(len);
+    let mut rest = number;
+    for _ in 0..len {
+        rest = rest
+            .wrapping_mul(0x5851_F42D_4C95_7F2D)
+            .wrapping_add(0x1405_7B7E_F767_814F);
+        text.push(char::from(b'0' + ((rest >> 33) % 10) as u8));
+    }
+    text
+}
+
+/// Returns how many maps are filled, so that one loop takes about as long at each size up to 10,000. A million items take seconds.
 fn rounds(items: usize) -> usize {
-    (20_000 / items).max(2)
+    (20_000 / items).max(if items < 500_000 { 2 } else { 1 })
 }
 
 /// Returns how often each item of one map is asked for.
 fn orders(items: usize) -> usize {
-    2 * rounds(items)
+    let rounds = rounds(items);
+    if rounds == 1 { 1 } else { 2 * rounds }
 }
 
 /// One map, whose items are asked for in many orders.
@@ -148,6 +162,13 @@ pub fn copied<const N: usize>(items: usize) -> Workload<N> {
 pub fn compared<const N: usize>(items: usize) -> Workload<N> {
     let mut load = reordered::<N>(items);
     load.operations *= copies(items);
+    load
+}
+
+/// Several maps, each with half of the items, to which as many are added.
+pub fn doubled<const N: usize>(items: usize) -> Workload<N> {
+    let mut load = fresh::<N>(items);
+    load.operations /= 2;
     load
 }
 

@@ -20,7 +20,7 @@ LIBRARIES = sources.libraries("tests/programs/libraries.txt")
 # The libraries among them, of which others make programs.
 USED = {it for of in LIBRARIES.values() for it in of if it in LIBRARIES}
 # The folder of each crate that has texts; the others are made from these.
-OF_BENCH = {"bench_loops": "bench/loops", "bench_whole": "bench/whole_program"}
+OF_BENCH = {"bench_loops": "bench/loops", "bench_whole": "bench/whole_program", "bench_proved": "bench/proved_program"}
 FOLDERS = {it: folder for it in LIBRARIES if os.path.isdir(folder := OF_BENCH.get(it, f"tests/programs/{it}"))}
 # How the paths of the texts begin that are written anew at one key, and at three.
 ONE = ("test_calls_bi/", "bench_loops/src/two_keys")
