@@ -38,7 +38,7 @@ pub fn is_before(job: &Job, other: &Job) -> bool
     ensures { result ≡ (nat_lt job.now.rank other.now.rank
         || (job.now.rank == other.now.rank && nat_lt job.now.arrival other.now.arrival)) }
 {
-    // That this fits, as the type says, is known of a field that is read.
+    // The prover knows that an arrival fits its type once it is read.
     let (_arrival, _other) = (job.arrival, other.arrival);
     job.sort_key() < other.sort_key()
 }

@@ -33,7 +33,8 @@ leading-8 (a ∷ b ∷ c ∷ d ∷ e ∷ f ∷ []) = omega arith
 leading-8 (a ∷ b ∷ c ∷ d ∷ e ∷ f ∷ g ∷ []) = omega arith
 leading-8 (a ∷ b ∷ c ∷ d ∷ e ∷ f ∷ g ∷ h ∷ bs) = omega arith
 
--- each is a byte
+-- Each of the numbers is a byte.
+-- Example: It holds for 97, 98 and 255.
 abbrev pub AreBytes : List ℕ → Type 0
 AreBytes bs = (i : ℕ) → get_or bs i 0 < 256
 
