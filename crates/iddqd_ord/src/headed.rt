@@ -77,11 +77,8 @@ pub(crate) fn head_of(text: &str) -> u64
         + bytes[7] as u64
 }
 
-/// A borrowed text that has its first eight bytes as a number beside it: what a lookup by a `HeadedString` takes.
-///
-/// ```text
-/// terms.get(HeadedStr::new("main"))
-/// ```
+/// A borrowed text that has its first eight bytes as a number beside it. A lookup by a `HeadedString` takes one, as
+/// `terms.get(HeadedStr::new("main"))` does, and makes the number once.
 #[derive(Clone, Copy)]
 pub struct HeadedStr<'a> {
     head: u64,
