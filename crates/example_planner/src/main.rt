@@ -20,7 +20,9 @@ ghost use Rattle.iddqd_sorted.specs.Items.{items};
 
 mod book;
 mod files;
+mod hosts;
 mod planner;
+mod queue;
 mod terms;
 
 use crate::planner::{Plan, Step, at, between, book, cancel, next_due, start_next};

@@ -4,6 +4,7 @@ pub mod Calls
 pub mod Entries
 pub mod Extensions
 pub mod Extracting
+pub mod Heads
 pub mod InsertErrors
 pub mod Inserts
 pub mod Items

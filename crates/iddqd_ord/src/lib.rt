@@ -13,6 +13,7 @@ mod cursor;
 mod debug;
 mod entry;
 mod error;
+mod headed;
 mod into_iter;
 mod item;
 mod iter_mut;
@@ -29,6 +30,7 @@ pub use error::{
     EntryError, EntryRefusal, ExtendUniqueError, FromIterError, InsertError, KeyMismatch,
     NotReplaced, Rejected,
 };
+pub use headed::{HeadedStr, HeadedString};
 pub use iddqd_order::{IntoIter, Iter};
 pub use item::{IdOrdItem, IdOrdItemMut};
 pub use iter_mut::IterMut;

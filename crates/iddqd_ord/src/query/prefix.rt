@@ -10,6 +10,7 @@ ghost use Rattle.std.specs.Cmp.{nat_cmp_total, unsigned_ties};
 ghost use Rattle.iddqd_ord.specs.Queries.{prefix_side, prefix_meets, IsSeeking-prefix, IsSeeking-part};
 
 use super::OrdSeek;
+use crate::headed::HeadedString;
 use std::alloc::Allocator;
 use std::borrow::CowStr;
 use std::boxed::{BoxedSlice, BoxedStr};
@@ -57,6 +58,20 @@ impl<A: Allocator> OrdSeek<String<A>> for Prefix<&str> {
 
     fn compare_key(&self, key: &String<A>) -> Ordering {
         compare_first(key.as_bytes(), self.0.as_bytes())
+    }
+
+    ghost seeks = { λ q. IsSeeking-part string_bytes (IsSeeking-prefix nat_cmp_total q.0.now) };
+
+    ghost meets_equal = { λ q k. prefix_meets nat_cmp_total unsigned_ties q.0.now (string_bytes k) };
+}
+
+impl OrdSeek<HeadedString> for Prefix<&str> {
+    ghost side = { λ q k. prefix_side nat_cmp q.0.now (string_bytes k) };
+
+    ghost meets = { λ q k. starts_with nat_eq (string_bytes k) q.0.now };
+
+    fn compare_key(&self, key: &HeadedString) -> Ordering {
+        compare_first(key.as_str().as_bytes(), self.0.as_bytes())
     }
 
     ghost seeks = { λ q. IsSeeking-part string_bytes (IsSeeking-prefix nat_cmp_total q.0.now) };
