@@ -4,15 +4,18 @@
 //!
 //! The crate's maps have no `extend_unique`, no `rekey1`, and none of the calls that take items out one by one. Their loops are
 //! what a caller of the crate has to write, the defaults of `Map`. The crate's map with three keys has no entries, so
-//! both rows of `or_insert` are left out there.
+//! both rows of `or_insert` are left out there. A crate of that name may lack the map with one key: the script looks for it.
 use crate::calls::{Map, told};
 use crate::hasher::FoldHasher;
 use crate::workload::Row;
-use iddqd::{BiHashItem, BiHashMap, IdHashItem, IdHashMap, TriHashItem, TriHashMap};
+use iddqd::{BiHashItem, BiHashMap, TriHashItem, TriHashMap};
+#[cfg(feature = "beside_one")]
+use iddqd::{IdHashItem, IdHashMap};
 use std::hash::BuildHasherDefault;
 use std::ops::DerefMut;
 
 pub type Builder = BuildHasherDefault<FoldHasher>;
+#[cfg(feature = "beside_one")]
 pub type One = IdHashMap<Row<1>, Builder>;
 pub type Two = BiHashMap<Row<2>, Builder>;
 pub type Three = TriHashMap<Row<3>, Builder>;
@@ -36,6 +39,7 @@ macro_rules! item {
     };
 }
 
+#[cfg(feature = "beside_one")]
 item!(IdHashItem 1: Key key upcast_key 0);
 item!(BiHashItem 2: K1 key1 upcast_key1 0, K2 key2 upcast_key2 1);
 item!(TriHashItem 3: K1 key1 upcast_key1 0, K2 key2 upcast_key2 1, K3 key3 upcast_key3 2);
@@ -147,6 +151,7 @@ macro_rules! map {
     };
 }
 
+#[cfg(feature = "beside_one")]
 map!(
     IdHashMap 1, get get_mut remove, lacks &[],
     |map: &mut One, row: Row<1>| Some(told(&map.entry(row.keys[0]).or_insert(row))),

@@ -192,6 +192,8 @@ impl Wanted {
             let others = &mut operation.others;
             others.retain(|(name, _)| self.is_beside(name) && !self.growth);
         }
+        // A map that has none of the sides that were asked for has no table.
+        picked.retain(|it| self.beside.is_none() || !it.others.is_empty());
         picked
     }
 

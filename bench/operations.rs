@@ -225,7 +225,7 @@ fn with<const N: usize>(
 /// Returns the operations at one key. In std the map holds the items themselves, and of `slots` it holds the numbers.
 pub fn one() -> Vec<Operation<1>> {
     let all = with(one_key::<OneByHand>(), one_key::<ByHand<1>>());
-    #[cfg(feature = "beside")]
+    #[cfg(feature = "beside_one")]
     let all = with(all, one_key::<crate_maps::One>());
     all
 }

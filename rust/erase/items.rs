@@ -79,7 +79,8 @@ impl File<'_> {
                 "impl" => self.implementation(&item)?,
                 "fn" => {
                     let says = (item.start..item.word).any(|at| self.is_code(at) && matches!(self.text(at), "inline" | "cold"));
-                    if self.text(item.body) == "{" && !says {
+                    // A rule may have said it before.
+                    if self.text(item.body) == "{" && !says && !self.all[item.start].before.contains("inline") {
                         self.all[item.start].before.push_str("#[inline] ");
                     }
                     self.contract(&item)?;

@@ -1,18 +1,22 @@
 //! The search of an [`IdOrdMap`], and the bounds of a range.
 //!
 //! A caller's query compares with keys that are borrowed for as long as the map is, while the search of the proved map lends its query
-//! each key for a shorter time. So the search is here, over the proved map's calls by place.
+//! each key for a shorter time. So the search is here, over the proved map's blocks.
+use super::held::Wraps;
 use super::*;
 use crate::iddqd_order::Place;
 
-/// Returns how many of the numbers below `len` hold, of which those that hold come first.
-fn count_first(len: usize, mut holds: impl FnMut(usize) -> bool) -> usize {
-    let (mut low, mut high) = (0, len);
-    while low < high {
-        let middle = low + (high - low) / 2;
-        if holds(middle) { low = middle + 1 } else { high = middle }
+/// Returns how many entries hold, of which those that hold come first. Like the proved search it goes on in a quarter of the entries at each
+/// step: no comparison of a step waits for another one, and none is a branch.
+fn count_first<'a, E>(entries: &'a [E], mut holds: impl FnMut(&'a E) -> bool) -> usize {
+    let (mut low, mut left) = (0, entries.len());
+    while 4 <= left {
+        let part = (left - 3) / 4 + 1;
+        let passed: usize = [1, 2, 3].iter().map(|n| usize::from(holds(&entries[low + n * part - 1]))).sum();
+        low += passed * part;
+        left -= 3 * part;
     }
-    low
+    low + entries[low..low + left].iter().map(|it| usize::from(holds(it))).sum::<usize>()
 }
 
 impl<T: IdOrdItem> IdOrdMap<T> {
@@ -42,20 +46,14 @@ impl<T: IdOrdItem> IdOrdMap<T> {
 
     /// Searches by how the query compares with a key: first the block, the last one whose first item is not above the query, then in it.
     fn search<'a>(&'a self, mut compare: impl FnMut(T::Key<'a>) -> Ordering) -> Result<Place, Place> {
-        let mut compare_at = |place| compare(self.at(place).key());
-        let blocks = count_first(self.map.end_place().block, |block| compare_at(Place { block, offset: 0 }) != Ordering::Less);
-        let Some(block) = blocks.checked_sub(1) else { return Err(Place::first()) };
-        let last = self.map.place_before(Place { block: blocks, offset: 0 }).expect("no block is empty");
-        let mut equal = None;
-        let offset = count_first(last.offset + 1, |offset| {
-            let order = compare_at(Place { block, offset });
-            if order == Ordering::Equal {
-                equal = Some(offset);
-            }
-            order == Ordering::Greater
-        });
+        let blocks = self.map.blocks().as_blocks();
+        let behind = count_first(blocks, |block| compare(block.entries()[0].item().key()) != Ordering::Less);
+        let Some(block) = behind.checked_sub(1) else { return Err(Place::first()) };
+        let entries = blocks[block].entries();
+        let offset = count_first(entries, |entry| compare(entry.item().key()) == Ordering::Greater);
         let place = Place { block, offset };
-        if equal == Some(offset) { Ok(place) } else { Err(place) }
+        let is_equal = entries.get(offset).is_some_and(|entry| compare(entry.item().key()) == Ordering::Equal);
+        if is_equal { Ok(place) } else { Err(place) }
     }
 }
 

@@ -1,5 +1,9 @@
-// Plain Rust, in no proved text: it lends the entries between two places for writing at once, and moves no entry.
+// Plain Rust, in no proved text: it lends the entries between two places for writing at once, and all for a search, and moves no entry.
 impl<E> Blocks<E> {
+    pub(crate) fn as_blocks(&self) -> &[Block<E>] {
+        self.row.as_blocks()
+    }
+
     pub(crate) fn range_mut(&mut self, from: Place, to: Place) -> EntriesMut<'_, E> {
         let left = self.range(from, to).len();
         let end = self.row.len().min(to.block + 1);
