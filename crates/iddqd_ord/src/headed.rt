@@ -5,6 +5,7 @@ ghost use Rattle.std.specs.Cmp.Lexicographic.{slice_cmp, nat_list_eq_equiv, nat_
 ghost use Rattle.std.specs.Ordering.{nat_cmp};
 ghost use Rattle.iddqd_ord.specs.Heads.{text_head};
 
+use std::alloc::AllocError;
 use std::cmp::Ordering;
 use std::fmt::{self, Debug, Display, Formatter, Write};
 use std::marker::Model;
@@ -12,14 +13,14 @@ use std::marker::Model;
 /// A text that has its first eight bytes as a number beside it. As a key of an `IdOrdMap` it has the order of the text, and where
 /// the first eight bytes of two texts differ, their comparison reads the numbers alone, which stand in the item.
 ///
-/// A contract sees the text, a `String`. A lookup takes a `HeadedStr`, which has the number of what is sought, or a `&str`, which
-/// has it made for each comparison.
-#[derive(Clone, Drop)]
+/// A lookup takes a `HeadedStr`, which has the number of what is sought, or a `&str`, which has it made for each comparison.
+#[derive(Drop)]
 pub struct HeadedString {
     head: u64,
     text: String,
 }
 
+// What contracts see is the text.
 impl Model for HeadedString {
     ghost use Rattle.std.specs.Prelude.{◌≡◌, String, string_bytes};
     ghost use Rattle.std.specs.Global.{Global};
@@ -158,6 +159,17 @@ fn compare_headed(head: u64, text: &str, other_head: u64, other: &str) -> Orderi
     match head.cmp(&other_head) {
         Ordering::Equal => text.cmp(other),
         side => side,
+    }
+}
+
+impl Clone for HeadedString {
+    ghost is_clone = { λ t copy. string_bytes copy ≡ string_bytes t };
+
+    fn clone(&self) -> Result<Self, AllocError> {
+        Ok(HeadedString {
+            head: self.head,
+            text: self.text.clone()?,
+        })
     }
 }
 
