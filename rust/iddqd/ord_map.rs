@@ -161,8 +161,9 @@ impl<T: IdOrdItem> IdOrdMap<T> {
 
     // Inserts an item at the place that a search for its key found, and returns its place.
     pub(super) fn put(&mut self, place: Place, value: T) -> Place {
-        must(self.map.make_room());
-        self.map.insert_into(Wraps::wrap(value), place)
+        let item = Wraps::wrap(value);
+        must(self.map.make_room(&item));
+        self.map.insert_into(item, place)
     }
 
     pub(super) fn swap(&mut self, place: Place, value: T) -> T {

@@ -19,7 +19,7 @@ pub mod marker {
 }
 
 pub mod mem {
-    pub use core::mem::{replace, size_of};
+    pub use core::mem::{replace, size_of, size_of_val};
 }
 
 pub mod ops {

@@ -2,6 +2,7 @@
 //! have other names here.
 use super::alloc::AllocError;
 pub use ::alloc::vec::{IntoIter, Vec};
+use core::cmp::Ordering;
 
 /// The calls of a list that Rattle's std has, and Rust's has not, or not so.
 pub trait Growing<T>: Sized {
@@ -30,6 +31,9 @@ pub trait Growing<T>: Sized {
 
     /// `reserve_exact`, which may fail.
     fn reserve_just(&mut self, more: usize) -> Result<(), AllocError>;
+
+    /// `sort_by`, which may fail. Rust's own ends the program if the memory that it works in is refused: so as much is asked for first.
+    fn try_sort_by<F: FnMut(&T, &T) -> Ordering>(&mut self, compare: F) -> Result<(), AllocError>;
 
     /// `shrink_to`. Rust's own ends the program if the smaller piece of memory is refused: here the list then keeps what it has.
     fn shrink_or_keep(&mut self, least: usize);
@@ -100,6 +104,12 @@ impl<T> Growing<T> for Vec<T> {
     #[inline]
     fn reserve_just(&mut self, more: usize) -> Result<(), AllocError> {
         self.try_reserve_exact(more).map_err(|_| AllocError)
+    }
+
+    fn try_sort_by<F: FnMut(&T, &T) -> Ordering>(&mut self, compare: F) -> Result<(), AllocError> {
+        Self::new().reserve_just(self.len())?;
+        self.sort_by(compare);
+        Ok(())
     }
 
     fn shrink_or_keep(&mut self, least: usize) {

@@ -9,7 +9,7 @@ use iddqd_store::TryReserveError;
 use std::alloc::Global;
 use std::marker::PhantomData;
 
-/// How many items a block has at most, whatever their size: the checker does not take a bound that `size_of` of the item chooses.
+/// How many items a block has at most, unless the size of the first one that comes says less (`Blocks::suit`).
 pub(super) const BLOCK: usize = 128;
 
 impl<T: IdOrdItem> IdOrdMap<T> {

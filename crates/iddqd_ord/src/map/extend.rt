@@ -38,7 +38,8 @@ impl<T: IdOrdItem + Drop> IdOrdMap<T> {
             → self.new.capacity ≡ self.old.capacity }
     {
         self.note_order();
-        let mut list = Vec::new(self.items.allocator());
+        let alloc = self.items.allocator();
+        let mut list = Vec::new(alloc);
         for item in iter {
             self.put_or_gather(&mut list, item)?;
         }

@@ -54,8 +54,8 @@ impl<T: IdOrdItem + Drop> IdOrdMap<T> {
             list.push_reserved(item);
             return Ok(());
         }
-        let none = Vec::new(*list.allocator());
-        self.put_all_and(replace(list, none), item)
+        let alloc = self.items.allocator();
+        self.put_all_and(replace(list, Vec::new(alloc)), item)
     }
 
     /// Puts the items of a list into the map as `put_all` does, and then one more.
