@@ -1,4 +1,4 @@
-use Rattle.std.proofs.Common.{◌≡◌, rules, sym, ap, length, ◌∙◌, arith}
+use Rattle.std.proofs.Common.{rules}
 use Rattle.std.specs.Ordering.{is_lt}
 use Rattle.std.proofs.lemmas.List.Sorted.{ranks_by, answers_always, length_permutation}
 use Rattle.iddqd_ord.proofs.ExtendLemmas.{ExtendsTo-grown, ExtendsTo-lowered}

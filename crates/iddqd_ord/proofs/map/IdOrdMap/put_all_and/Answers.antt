@@ -1,4 +1,4 @@
-use Rattle.std.proofs.Common.{◌≡◌, [], ◌∷◌, rules, length, length-append, arith}
+use Rattle.std.proofs.Common.{[], ◌∷◌, rules}
 use Rattle.iddqd_store.proofs.MapLemmas.{at_err}
 use Rattle.iddqd_ord.proofs.ExtendLemmas.{ExtendsTo-append, ExtendsTo-overwrites, StopsAt-first, StopsAt-append, StopsAt-more, not_full}
 use Rattle.iddqd_ord.proofs.map.IdOrdMap.put_all_and.Goals as goal

@@ -1,4 +1,4 @@
-use Rattle.std.proofs.Common.{◌≡◌, [], ◌∷◌, rules, sym, ap, length, arith}
+use Rattle.std.proofs.Common.{◌≡◌, [], rules, sym, ap, length, arith}
 use Rattle.std.specs.Prelude.{vec_len}
 use Rattle.std.specs.Vec.Iter.{into_iter_items}
 use Rattle.std.proofs.lemmas.List.{nil_from_length}
