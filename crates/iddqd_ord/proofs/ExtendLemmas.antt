@@ -153,6 +153,7 @@ module _ {T Key : Type 0} (of : item.Ghosts T Key) (cmp : Key → Key → Orderi
     -- what fits beside the list, fits beside those that are left
     pub Gathers-room : (more : ℕ) → length (items old) + (length list + more) ≤ old.capacity → length (items now) + (length left + more) ≤ now.capacity
     Gathers-room more room = room_left so_far.extends (length left + more) (omega (arith, ap length so_far.is, length-append so_far.put left, room))
+
     pub Gathers-room_all : length (items old) + length list ≤ old.capacity → length (items now) + length left ≤ now.capacity
     Gathers-room_all room = omega (arith, Gathers-room 0 (omega (arith, room)))
 
