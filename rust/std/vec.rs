@@ -107,7 +107,10 @@ impl<T> Growing<T> for Vec<T> {
     }
 
     fn try_sort_by<F: FnMut(&T, &T) -> Ordering>(&mut self, compare: F) -> Result<(), AllocError> {
-        Self::new().reserve_just(self.len())?;
+        // A list of up to 4 KiB is sorted in room that Rust's sort has at hand. For a longer one it asks for as many items, and would end the program.
+        if 4096 < self.len() * size_of::<T>() {
+            Self::new().reserve_just(self.len())?;
+        }
         self.sort_by(compare);
         Ok(())
     }
