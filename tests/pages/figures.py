@@ -40,9 +40,9 @@ def ratios(page, mark, part, side):
 
 
 def programs():
-    """Yields the rows of each table of whole programs, each with its name and its other cells."""
+    """Yields the cells of each row of each table of whole programs, by what the row is called."""
     for table in re.findall(r"^\|.*\n\|[-|]+\n((?:\|.*\n)+)", block(SPEED, "bench/beside PATH --whole"), re.M):
-        yield [[cell.strip() for cell in line.strip("| ").split("|")] for line in table.splitlines()]
+        yield {name: cells for name, *cells in ([cell.strip() for cell in line.strip("| ").split("|")] for line in table.splitlines())}
 
 
 def made():
@@ -53,12 +53,13 @@ def made():
         cells = [next(("; ".join(of[it].get(size, "-").lstrip("~") for size in SIZES) for it in names if it in of), "") for names in CALLS.values()]
         lines.append(f"| {name} | {' | '.join(cells)} |")
     records, book, sessions = programs()
-    seconds, bytes_held = (float(records[0][n]) / float(records[1][n]) for n in (1, 2))
+    here, by_hand = records["`BiHashMap`"], records["two `HashMap`s and a `Vec`, with the hasher of `BiHashMap`"]
+    held = float(here[-1]) / float(by_hand[-1])
     lines += [
         "", "Whole programs: with a million records under two keys, looked up and written in order, "
-        f"`BiHashMap` takes {seconds:.2f} of the time and {bytes_held:.2f} of the memory of two `HashMap`s in step. An order book of",
-        f"200,000 orders takes {book[2][2]} of the time of a `HashMap` and a `BTreeSet` in step, and 200,000 sessions that expire, under two keys, take "
-        f"{sessions[1][2]} of that of two `HashMap`s and a `BTreeSet`.",
+        f"`BiHashMap` takes {by_hand[1]} of the time and {held:.2f} of the memory of two `HashMap`s in step. An order book of",
+        f"200,000 orders takes {book['`HashMap`, `BTreeSet` of rank, time, number'][1]} of the time of a `HashMap` and a `BTreeSet` in step, and 200,000 sessions that expire, "
+        f"under two keys, take {sessions['two `HashMap`s, `BTreeSet`'][1]} of that of two `HashMap`s and a `BTreeSet`.",
     ]
     return "\n".join(lines) + "\n"
 
