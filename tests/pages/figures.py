@@ -10,7 +10,6 @@ BLOCK = re.compile(r"(?<=^<!-- begin: speed -->\n)(?:.*\n)*?(?=<!-- end -->$)", 
 SIZES = ("1,000", "100,000")
 CALLS = {
     "insert": ("insert without room", "insert"), "look-up": ("look-up, hit",), "look-up that misses": ("look-up, miss",), "removal": ("removal",),
-    "write that leaves the sort key": ("replace, same sort key",),
 }
 # What is compared with what, and where: the page, the mark of its table, the heading of the part, and the other side.
 ROWS = (
@@ -18,7 +17,7 @@ ROWS = (
     ("`BiHashMap`, with the Rust crate's", SPEED, "bench/beside PATH --page", "2 keys", "crate"),
     ("`TriHashMap`, with the Rust crate's", SPEED, "bench/beside PATH --page", "3 keys", "crate"),
     ("`IdOrdMap`, with std's `BTreeMap`", ORDERED, "bench/run --ordered --table", "IdOrdMap", "std"),
-    ("`BiHashOrdMap`, with a slab, two `HashMap`s and a `BTreeSet` by hand", SPEED, "bench/run --sorted --table", "2 keys", "std"),
+    ("`BiHashOrdMap`, with a slab, two `HashMap`s and a `BTreeSet` by hand", SPEED, "bench/run --sorted --table", "BiHashOrdMap", "std"),
 )
 
 
