@@ -102,7 +102,7 @@ fn has_blocks_again() {
 #[test]
 fn one_block_is_all() {
     let mut map = in_one_block();
-    assert!(map.remove(&7).is_some());
+    assert!(map.remove(7).is_some());
     assert_eq!(blocks_for(&mut map, 7..8), 0);
 }
 
