@@ -1,5 +1,5 @@
 //! Where the bytes of a journal are kept: what the registry asks of it, and three logs, one of which is a file.
-ghost use Rattle.std.specs.Prelude.{◌≡◌, ◌++◌, ℕ, List, take, Option, Some, None, IfOk, IfSome, OnOk, OnErr, option_map};
+ghost use Rattle.std.specs.Prelude.{◌≡◌, ◌++◌, ℕ, List, length, take, Option, Some, None, IfOk, IfSome, OnOk, OnErr, option_map};
 
 use std::alloc::Global;
 use std::cell::Cell;
@@ -19,6 +19,10 @@ pub trait Log {
     fn read(&self, alloc: Global) -> io::Result<Vec<u8>>
         ensures { IfOk result (λ bytes. IfSome (kept self.now) (λ here. bytes.items ≡ here)) };
 
+    /// Returns how many bytes it has.
+    fn size(&self) -> io::Result<usize>
+        ensures { IfOk result (λ size. IfSome (kept self.now) (λ here. length here ≡ size)) };
+
     /// Puts these bytes behind the first `at`, in the place of those that are there. After an error there may be any there.
     fn write(&mut self, at: usize, bytes: &[u8]) -> io::Result<()>
         ensures written { OnOk result (kept self.new ≡ option_map (λ here. take at here ++ bytes.now) (kept self.old)) }
@@ -37,6 +41,10 @@ impl Log for Vec<u8> {
 
     fn read(&self, alloc: Global) -> io::Result<Vec<u8>> {
         Ok(self.as_slice().to_vec(alloc)?)
+    }
+
+    fn size(&self) -> io::Result<usize> {
+        Ok(self.len())
     }
 
     fn write(&mut self, at: usize, bytes: &[u8]) -> io::Result<()> {
@@ -75,6 +83,10 @@ impl<L: Log + Drop> Log for Limited<'_, L> {
         };
         self.disk.reads.set(reads);
         self.log.read(alloc)
+    }
+
+    fn size(&self) -> io::Result<usize> {
+        self.log.size()
     }
 
     fn write(&mut self, at: usize, bytes: &[u8]) -> io::Result<()> {
@@ -132,6 +144,15 @@ impl Log for FileLog<'_> {
         let mut bytes = Vec::new(alloc);
         open(self.rt, self.path.as_str())?.read_to_end(&mut bytes)?;
         Ok(bytes)
+    }
+
+    // A file that is gone has no bytes. It is not made anew here.
+    fn size(&self) -> io::Result<usize> {
+        match fs::metadata(self.rt, self.path.as_str()) {
+            Ok(file) => Ok(file.len() as usize),
+            Err(error) if error.kind() == io::ErrorKind::NotFound => Ok(0),
+            Err(error) => Err(error),
+        }
     }
 
     fn write(&mut self, at: usize, bytes: &[u8]) -> io::Result<()> {

@@ -16,7 +16,12 @@
 //! why. If nobody knows what the journal has, or it did not open, it is closed: a change is answered by `closed` then.
 //!
 //! Beside a journal in the file NAME, `compact` makes the file NAME.new, and then gives it the name NAME. If there is a NAME.new,
-//! `compact` is answered by `failed: File exists ..`, and both files stay as they are.
+//! `compact` is answered by `failed: File exists ..`, and both files stay as they are. If NAME is a link, `compact` replaces the link
+//! by the new file, and the file behind it keeps the old lines.
+//!
+//! One process at a time may have the journal. A change looks first whether the file is as long as the registry left it, and is
+//! answered by `closed` if another process has made it longer or shorter, or has taken it away; `open` loads what is there then. A
+//! change of another process that falls between this look and the line is not seen.
 #![tactic(auto)]
 
 mod changes;

@@ -51,7 +51,11 @@ pub struct Registry<L: Log + Drop> {
 
 impl<L: Log + Drop> Registry<L> {
     /// Makes a registry without devices, whose journal is not yet open.
-    pub fn new(alloc: Global, log: L) -> Registry<L> {
+    pub fn new(alloc: Global, log: L) -> Registry<L>
+        ensures log { L.kept result.log ≡ L.kept log }
+        ensures closed { result.is_open ≡ false }
+        ensures none { bag result.devices ≡ [] }
+    {
         Registry {
             devices: BiHashMap::new(alloc),
             log,
@@ -86,6 +90,27 @@ impl<L: Log + Drop> Registry<L> {
         Ok(bytes.len() - len)
     }
 
+    /// Closes the journal if the log does not have as many bytes as the registry wrote: another process has changed it since.
+    /// Such a change between this look and a write is not seen.
+    fn look(&mut self) -> Result<(), Failure>
+        ensures devices { self.new.devices ≡ self.old.devices }
+        ensures log { L.kept self.new.log ≡ L.kept self.old.log }
+        ensures len { self.new.len ≡ self.old.len }
+        ensures still_open { OnOk result (self.new.is_open ≡ true) }
+        ensures was_open { OnOk result (self.old.is_open ≡ true) }
+        ensures closed { IsErrOf result Failure.Closed → self.new.is_open ≡ false }
+        ensures other { (IsErrOf result Failure.Taken → ⊥) × (IsErrOf result Failure.NoDevice → ⊥) }
+    {
+        if !self.is_open {
+            return Err(Failure::Closed);
+        }
+        if self.log.size()? != self.len {
+            self.is_open = false;
+            return Err(Failure::Closed);
+        }
+        Ok(())
+    }
+
     /// Writes the line of a change, and closes the journal until the change is made. After an error the log has the lines that it
     /// had, or the journal is closed.
     fn write(&mut self, change: Change) -> Result<(), Failure>
@@ -99,9 +124,7 @@ impl<L: Log + Drop> Registry<L> {
             × (IsErrOf result Failure.Closed → self.new.is_open ≡ false) }
         ensures left { self.old.is_open ≡ false → L.kept self.new.log ≡ L.kept self.old.log }
     {
-        if !self.is_open {
-            return Err(Failure::Closed);
-        }
+        self.look()?;
         let line = write_line(self.alloc, change)?;
         let Some(len) = self.len.checked_add(line.len()) else {
             return Err(Failure::Log(AllocError.into()));
@@ -169,9 +192,7 @@ impl<L: Log + Drop> Registry<L> {
         ensures was_open { OnOk result (self.old.is_open ≡ true) }
         ensures same_lines { OnErr result (L.kept self.new.log ≡ L.kept self.old.log) }
     {
-        if !self.is_open {
-            return Err(Failure::Closed);
-        }
+        self.look()?;
         let lines = write_all(self.alloc, &self.devices)?;
         let len = lines.len();
         self.log.replace(lines)?;

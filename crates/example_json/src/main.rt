@@ -21,7 +21,7 @@ mod team;
 
 use crate::hub::{read_devices, read_hub, write_devices, write_hub};
 use crate::racks::{rewritten, rewritten_from_value};
-use crate::site::{read_numbered, read_site, write_numbered, write_site};
+use crate::site::{read_numbered, read_site, site_from_value, write_numbered, write_site};
 use crate::team::{read_team, write_team};
 use serde_json::Error;
 use std::alloc::Global;
@@ -45,6 +45,11 @@ fn answer(alloc: Global, line: &[u8]) -> Result<String, Error> {
     write_hub(alloc, &read_hub(alloc, line)?)
 }
 
+/// Reads a site from a value, and writes it anew.
+fn site_written(alloc: Global, line: &[u8]) -> Result<String, Error> {
+    write_site(alloc, &site_from_value(alloc, line)?)
+}
+
 /// Prints what was read of a line, or why it was not read.
 fn show(rt: &impl Print, read: Result<String, Error>) -> io::Result<()> {
     match read {
@@ -55,6 +60,10 @@ fn show(rt: &impl Print, read: Result<String, Error>) -> io::Result<()> {
 
 /// Answers a line.
 fn answer_line(rt: &impl Print, alloc: Global, line: &[u8]) -> io::Result<()> {
+    if line.starts_with(b"{\"people\"") {
+        show(rt, answer(alloc, line))?;
+        return show(rt, site_written(alloc, line));
+    }
     if !line.starts_with(b"{\"cables\"") {
         return show(rt, answer(alloc, line));
     }

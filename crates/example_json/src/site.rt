@@ -12,7 +12,7 @@ use iddqd_bi::BiHashMap;
 use iddqd_id::IdHashMap;
 use iddqd_serde::as_map::AsMap;
 use serde::{Described, Deserialize, Serialize};
-use serde_json::Error;
+use serde_json::{Error, Value};
 use std::alloc::Global;
 
 /// A site. In JSON its people and its devices are objects.
@@ -28,6 +28,12 @@ pub struct Site {
 /// the column of that name or number. If two of them have an equal key, it has those at which the second ends.
 pub fn read_site(alloc: Global, text: &[u8]) -> Result<Site, Error> {
     serde_json::from_slice(alloc, text)
+}
+
+/// Reads any value from a text and then a site from the value, as a program does that looks at a part first.
+pub fn site_from_value(alloc: Global, text: &[u8]) -> Result<Site, Error> {
+    let value: Value = serde_json::from_slice(alloc, text)?;
+    serde_json::from_value(alloc, value)
 }
 
 /// Writes a site.

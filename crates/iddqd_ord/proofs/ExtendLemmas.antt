@@ -6,11 +6,12 @@ use Rattle.std.specs.Ordering.{is_lt, is_gt}
 use Rattle.std.specs.declared.cmp.Ordering.{Ordering}
 use Rattle.std.specs.declared.cmp.Ordering.TheVariants.{Less, Equal, Greater}
 use Rattle.std.proofs.lemmas.List.{length-append}
+use Rattle.iddqd_store.proofs.Plain.{by_order}
 use Rattle.iddqd_store.specs.Bag.Building.{GivesThen}
 use Rattle.iddqd_ord.specs.Batches.{Gathers, StopsAt}
 use Rattle.iddqd_ord.specs.Extensions.{ExtendsTo, with_items}
 use Rattle.iddqd_ord.specs.Inserts.{Overwrites}
-use Rattle.iddqd_ord.specs.Items.{OrdMap, items, with_item, Gains, GrowsUnless}
+use Rattle.iddqd_ord.specs.Items.{OrdMap, items, most_extended, with_item, Gains, GrowsUnless}
 use Rattle.iddqd_ord.specs.declared.item.IdOrdItem as item
 
 pub fold-push : {A B : Type 0} (f : B → A → B) (b : B) (xs : List A) (x : A) → fold f b (xs ++ x ∷ []) ≡ f (fold f b xs) x
@@ -21,14 +22,14 @@ module _ {T Key : Type 0} (of : item.Ghosts T Key) (cmp : Key → Key → Orderi
   -- the lower and the higher items are some of all
   parts : (x : T) (xs : List T) → length (filter (λ y. is_lt (cmp (of.key y) (of.key x))) xs) + length (filter (λ y. is_gt (cmp (of.key y) (of.key x))) xs) ≤ length xs
   parts x [] = omega arith
-  parts x (y ∷ ys) = by_order (cmp (of.key y) (of.key x)) refl (parts x ys)
+  parts x (y ∷ ys) = by_place (cmp (of.key y) (of.key x)) refl (parts x ys)
     where
-      by_order : (o : Ordering) → cmp (of.key y) (of.key x) ≡ o
+      by_place : (o : Ordering) → cmp (of.key y) (of.key x) ≡ o
           → length (filter (λ y. is_lt (cmp (of.key y) (of.key x))) ys) + length (filter (λ y. is_gt (cmp (of.key y) (of.key x))) ys) ≤ length ys
           → length (filter (λ y. is_lt (cmp (of.key y) (of.key x))) (y ∷ ys)) + length (filter (λ y. is_gt (cmp (of.key y) (of.key x))) (y ∷ ys)) ≤ length (y ∷ ys)
-      by_order Less is more = rw is (omega arith)
-      by_order Equal is more = rw is (omega arith)
-      by_order Greater is more = rw is (omega arith)
+      by_place Less is more = rw is (omega arith)
+      by_place Equal is more = rw is (omega arith)
+      by_place Greater is more = rw is (omega arith)
 
   length-with_item : (xs : List T) (x : T) → length (with_item of cmp xs x) ≤ suc (length xs)
   length-with_item xs x =
@@ -44,13 +45,25 @@ module _ {T Key : Type 0} (of : item.Ghosts T Key) (cmp : Key → Key → Orderi
   with_items-append m (x ∷ xs) ys = with_items-append (with_item of cmp m x) xs ys
 
   pub ExtendsTo-none : (m : OrdMap T) → length (items m) ≤ m.capacity → ExtendsTo of cmp m [] m
-  ExtendsTo-none m fits = record { lists = refl; fits = fits; no_less_room = omega arith; same_room = λ room. refl }
+  ExtendsTo-none m fits = record { lists = refl; fits = fits; no_less_room = omega arith; same_room = λ room. refl; most = omega arith }
 
   pub ExtendsTo-overwrites : {old new : OrdMap T} {x : T} → Overwrites of cmp old x new → ExtendsTo of cmp old (x ∷ []) new
-  ExtendsTo-overwrites put = record { lists = put.lists; fits = put.fits; no_less_room = put.no_less_room; same_room = λ room. put.same_room (omega (arith, room)) }
+  ExtendsTo-overwrites {old} put = record {
+    lists = put.lists;
+    fits = put.fits;
+    no_less_room = put.no_less_room;
+    same_room = λ room. put.same_room (omega (arith, room));
+    most = by_order (length (items old)) old.capacity (λ spare. omega (arith, put.same_room spare)) (λ full. omega (arith, put.most, full));
+  }
 
   pub ExtendsTo-gains : {old new : OrdMap T} {x : T} → Gains of cmp old x new → ExtendsTo of cmp old (x ∷ []) new
-  ExtendsTo-gains put = record { lists = put.lists; fits = put.fits; no_less_room = put.no_less_room; same_room = λ room. put.same_room (omega (arith, room)) }
+  ExtendsTo-gains {old} put = record {
+    lists = put.lists;
+    fits = put.fits;
+    no_less_room = put.no_less_room;
+    same_room = λ room. put.same_room (omega (arith, room));
+    most = by_order (length (items old)) old.capacity (λ spare. omega (arith, put.same_room spare)) (λ full. omega (arith, put.most, full));
+  }
 
   module _ {old now : OrdMap T} {xs : List T} (so_far : ExtendsTo of cmp old xs now) where
     -- what fits beside a list, fits once that was put
@@ -69,6 +82,7 @@ module _ {T Key : Type 0} (of : item.Ghosts T Key) (cmp : Key → Key → Orderi
       same_room = λ room.
           (let both : length (items old) + (length xs + length ys) ≤ old.capacity = omega (arith, length-append xs ys, room) in
           more.same_room (room_left (length ys) both) ∙ so_far.same_room (omega (arith, both)));
+      most = omega (arith, more.most, so_far.most, ap length so_far.lists, length-with_items (items old) xs, length-append xs ys);
     }
 
     -- the capacity is lowered again
@@ -78,15 +92,18 @@ module _ {T Key : Type 0} (of : item.Ghosts T Key) (cmp : Key → Key → Orderi
       fits = fits;
       no_less_room = least;
       same_room = λ room. omega (arith, least, most, so_far.same_room room);
+      most = omega (arith, most, so_far.most);
     }
 
     -- the capacity grew before
-    pub ExtendsTo-grown : {first : OrdMap T} → items old ≡ items first → GrowsUnless (length (items first) + length xs ≤ first.capacity) first old → ExtendsTo of cmp first xs now
-    ExtendsTo-grown {first} same grows = record {
+    pub ExtendsTo-grown : {first : OrdMap T} → items old ≡ items first → GrowsUnless (length (items first) + length xs ≤ first.capacity) first old
+        → old.capacity ≤ most_extended first.capacity (length (items first) + length xs) → ExtendsTo of cmp first xs now
+    ExtendsTo-grown {first} same grows most = record {
       lists = so_far.lists ∙ ap (λ (l : List T). with_items of cmp l xs) same;
       fits = so_far.fits;
       no_less_room = omega (arith, grows.no_less_room, so_far.no_less_room);
       same_room = λ room. so_far.same_room (omega (arith, ap length same, grows.same_room room, room)) ∙ grows.same_room room;
+      most = omega (arith, most, so_far.most, ap length same);
     }
 
     -- an item of those that come next is refused

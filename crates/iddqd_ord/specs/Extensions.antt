@@ -3,7 +3,7 @@ use Rattle.std.specs.Prelude.{◌≡◌, ◌≤◌, ◌+◌, false, List, [], �
 use Rattle.std.specs.List.{list_any}
 use Rattle.std.specs.declared.cmp.Ordering.{Ordering}
 use Rattle.iddqd_store.specs.Bag.{IsOnly}
-use Rattle.iddqd_ord.specs.Items.{OrdMap, items, has_key_of, with_item}
+use Rattle.iddqd_ord.specs.Items.{OrdMap, items, has_key_of, most_extended, with_item}
 use Rattle.iddqd_ord.specs.declared.item.IdOrdItem as item
 
 module _ {T Key : Type 0} (of : item.Ghosts T Key) (cmp : Key → Key → Ordering) where
@@ -13,13 +13,14 @@ module _ {T Key : Type 0} (of : item.Ghosts T Key) (cmp : Key → Key → Orderi
   with_items xs ys = fold (with_item of cmp) xs ys
 
   -- Each item of the list was put into the map, and the items fit. The capacity stays if all of the list fits beside those
-  -- that were there.
+  -- that were there, and grows to no more than twice as many items as that.
   -- Example: A map of 3, 5 extended by 4, 5 has 3, 4 and the second 5.
   pub record ExtendsTo (old : OrdMap T) (xs : List T) (new : OrdMap T) : Type 0 where
     pub lists : items new ≡ with_items (items old) xs
     pub fits : length (items new) ≤ new.capacity
     pub no_less_room : old.capacity ≤ new.capacity
     pub same_room : length (items old) + length xs ≤ old.capacity → new.capacity ≡ old.capacity
+    pub most : new.capacity ≤ most_extended old.capacity (length (items old) + length xs)
 
   -- Each item of the list `xs` was put among the items `old`, where none had its key, and `new` lists the result in order.
   -- Example: 4, 1 added to 3, 5 makes 1, 3, 4, 5. No list is 4, 5 added to 3, 5.

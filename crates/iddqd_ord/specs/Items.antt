@@ -46,13 +46,15 @@ module _ {T Key : Type 0} (of : item.Ghosts T Key) where
     abbrev pub with_item : List T → T → List T
     with_item xs x = filter (λ y. is_lt (cmp (of.key y) (of.key x))) xs ++ x ∷ filter (λ y. is_gt (cmp (of.key y) (of.key x))) xs
 
-    -- The map has the item besides all that it had, and they fit. The capacity grows only if the map was full.
+    -- The map has the item besides all that it had, and they fit. The capacity grows only if the map was full, and then to no more
+    -- than twice what it was, or 4.
     -- Example: A map of 3, 5 with the capacity 4 gains 4, and has 3, 4, 5 and the capacity 4 then. It cannot gain another 5.
     pub record Gains (old : OrdMap T) (x : T) (new : OrdMap T) : Type 0 where
       pub lists : items new ≡ with_item (items old) x
       pub more : length (items new) ≡ length (items old) + 1
       pub no_less_room : old.capacity ≤ new.capacity
       pub same_room : length (items old) < old.capacity → new.capacity ≡ old.capacity
+      pub most : new.capacity ≤ max (2 * old.capacity) 4
       pub fits : length (items new) ≤ new.capacity
 
     -- No item has the key of `x`, and the map is full.
@@ -90,6 +92,12 @@ pub record MakesRoom {T A E : Type 0} (old : OrdMap T) (more : ℕ) (result : Re
   pub no_less_room : old.capacity ≤ new.capacity
   pub same_room : length (items old) + more ≤ old.capacity → new.capacity ≡ old.capacity
   pub most : new.capacity ≤ max (length (items old) + more) (max (2 * old.capacity) 4)
+
+-- `most_extended` is the highest capacity of a map that was extended, if with what came there would be so many items at most: what it
+-- was, or twice as many, or 4.
+-- Example: From the capacity 7 it is 7 with 3 items, and 20 with 10.
+abbrev pub most_extended : ℕ → ℕ → ℕ
+most_extended capacity count = max capacity (max (2 * count) 4)
 
 -- The capacity stays, or if `certain` does not hold, it may grow.
 -- Example: `certain` may say that as many items fit as an iterator gives at most.

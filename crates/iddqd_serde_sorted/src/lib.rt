@@ -165,7 +165,7 @@ where
     M::Item: Sortable + Drop,
     M::FirstKey: Ord,
     M::Rejected: Drop,
-    ensures gains { OnOk result (Gains (by_sort M.Item.sort_key M.Item.SortKey.cmp M.first_key M.FirstKey.cmp) map.old item map.new) }
+    ensures gains { OnOk result (Gains (by_sort M.Item.sort_key M.Item.SortKey.cmp M.first_key M.FirstKey.cmp) 1 map.old item map.new) }
     ensures more { OnOk result (length (items map.new) ≡ length (items map.old) + 1) }
 {
     // The error of `try_insert` shows its reason to contracts alone. Only a full map can lack memory, so there the keys are sought

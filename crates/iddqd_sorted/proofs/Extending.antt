@@ -1,12 +1,13 @@
 -- A map that gets the items of an iterator, one after another.
 use Rattle.std.proofs.Common.{◌≡◌, ℕ, suc, ◌+◌, ◌<◌, ◌≤◌, Bool, true, false, not, cond, List, [], ◌∷◌, ◌++◌, length, sym, ap, ◌∙◌, arith, length-append}
-use Rattle.std.specs.Prelude.{filter, fold}
+use Rattle.std.specs.Prelude.{◌*◌, filter, fold, max}
 use Rattle.std.specs.Ordering.{is_gt, is_lt}
 use Rattle.std.specs.declared.cmp.Ordering.{Ordering}
 use Rattle.std.specs.declared.cmp.Ordering.TheVariants.{Less, Equal, Greater}
 use Rattle.std.proofs.lemmas.List.Sums.{fold_push}
 use Rattle.iddqd_store.specs.Bag.{Ranks, do_conflict}
-use Rattle.iddqd_sorted.specs.Items.{GrowsUnless, SortedValue, items}
+use Rattle.iddqd_store.proofs.Plain.{by_order}
+use Rattle.iddqd_sorted.specs.Items.{GrowsUnless, SortedValue, items, most_extended, most_grown}
 use Rattle.iddqd_sorted.specs.Overwriting.{Overwrites, overwritten}
 
 module _ {T : Type 0} where
@@ -55,7 +56,7 @@ module _ {T K S : Type 0} {certain : Type 0} {left : ℕ} {old now : SortedValue
     pub full_not : certain → length (items now) ≡ now.capacity → ⊥
     full_not fit full = let fits = (so_far.fits fit).0 in absurd (omega (arith, fits, full, nearer))
 
-    pub HasRoomOn-overwrites : {ranks : Ranks T} {by : T → T → Ordering} {x : T} {new : SortedValue T K S} → Overwrites ranks by now x new → HasRoomOn certain next old new
+    pub HasRoomOn-overwrites : {ranks : Ranks T} {by : T → T → Ordering} {wanted : ℕ} {x : T} {new : SortedValue T K S} → Overwrites ranks by wanted now x new → HasRoomOn certain next old new
     HasRoomOn-overwrites {ranks} {by} {x} {new} put = record {
       no_less_room = omega (arith, so_far.no_less_room, put.no_less_room);
       fits = λ fit.
@@ -65,3 +66,36 @@ module _ {T K S : Type 0} {certain : Type 0} {left : ℕ} {old now : SortedValue
           (let fits = before.0 in omega (arith, fits, few, stays, nearer), stays ∙ before.1);
       same_builder = put.same_builder ∙ so_far.same_builder;
     }
+
+-- A map became another one when these items came. It has no more items than that, and its capacity is within the bound for them.
+pub record IsWithin {T K S : Type 0} (old now : SortedValue T K S) (xs : List T) : Type 0 where
+  pub few : length (items now) ≤ length (items old) + length xs
+  pub most : now.capacity ≤ most_extended old.capacity (length (items old) + length xs)
+
+module _ {T K S : Type 0} {old now : SortedValue T K S} where
+  -- the map grew once for what was promised
+  pub IsWithin-start : (more : ℕ) → length (items now) ≡ length (items old) → now.capacity ≤ max (length (items old) + more) (max (2 * old.capacity) 4)
+      → more ≤ max (8 * length (items old)) 65536 → IsWithin old now []
+  IsWithin-start more same grown asked = record { few = omega (arith, same); most = omega (arith, grown, asked) }
+
+  -- one more came, for which a full map grew
+  pub IsWithin-step : {xs : List T} (x : T) {new : SortedValue T K S} (wanted : ℕ) → IsWithin old now xs → length (items new) ≤ suc (length (items now))
+      → (length (items now) < now.capacity → new.capacity ≡ now.capacity) → new.capacity ≤ most_grown now.capacity (length (items now)) wanted
+      → IsWithin old new (xs ++ x ∷ [])
+  IsWithin-step {xs} x {new} wanted so_far few same grown = record { few = omega (arith, so_far.few, few, more); most = by_order (length (items now)) now.capacity spare full }
+    where
+      more : length (xs ++ x ∷ []) ≡ length xs + 1
+      more = length-append xs (x ∷ [])
+
+      spare : length (items now) < now.capacity → new.capacity ≤ most_extended old.capacity (length (items old) + length (xs ++ x ∷ []))
+      spare room = omega (arith, so_far.most, same room, more)
+
+      full : now.capacity ≤ length (items now) → new.capacity ≤ most_extended old.capacity (length (items old) + length (xs ++ x ∷ []))
+      full none = omega (arith, so_far.few, grown, none, more)
+
+  pub IsWithin-overwrites : {ranks : Ranks T} {by : T → T → Ordering} {wanted : ℕ} {xs : List T} {x : T} {new : SortedValue T K S} → IsWithin old now xs
+      → Overwrites ranks by wanted now x new → IsWithin old new (xs ++ x ∷ [])
+  IsWithin-overwrites {ranks} {by} {wanted} {xs} {x} {new} so_far put = IsWithin-step x wanted so_far few put.same_room put.most
+    where
+      few : length (items new) ≤ suc (length (items now))
+      few = rw put.lists (length-overwritten ranks by (items now) x)

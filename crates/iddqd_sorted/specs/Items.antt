@@ -1,5 +1,5 @@
 -- What a contract sees of a hash map with an order. In the examples an item is a pair of its first key and its sort key.
-use Rattle.std.specs.Prelude.{◌≡◌, ℕ, ◌+◌, ◌*◌, ◌<◌, ◌≤◌, Bool, max, true, ◌&&◌, List, [], ◌∷◌, ◌++◌, Option, filter, length, refl, Result, IsErr, OnOk, OnErr}
+use Rattle.std.specs.Prelude.{◌≡◌, ℕ, ◌+◌, ◌*◌, ◌<◌, ◌≤◌, Bool, max, true, ◌&&◌, List, [], ◌∷◌, ◌++◌, Option, filter, length, min, refl, Result, IsErr, OnOk, OnErr}
 use Rattle.std.specs.Coded.{Coded, code_by, coded×, coded_ℕ, coded_list, coded_option}
 use Rattle.std.specs.Ordering.{then_cmp, on, is_lt, is_le, is_gt, is_ge}
 use Rattle.std.specs.declared.cmp.Ordering.{Ordering}
@@ -48,6 +48,12 @@ bag m = contents m.slots
 abbrev pub by_sort : {T K Key : Type 0} → (T → K) → (K → K → Ordering) → (T → Key) → (Key → Key → Ordering) → T → T → Ordering
 by_sort sort cmp key cmp_key = then_cmp (on sort cmp) (on key cmp_key)
 
+-- `most_grown` is the highest capacity of a map of so many items that has grown because it was full: room for as many more as were
+-- `wanted`, but for no more than 65,536 or eight times as many as there are; or twice what it was, or 4.
+-- Example: From the capacity 7, with 7 items, it is 14 for one more, 27 for 20 more, and 65543 for a million more.
+abbrev pub most_grown : ℕ → ℕ → ℕ → ℕ
+most_grown capacity count wanted = max (capacity + min wanted (max (8 * count) 65536)) (max (2 * capacity) 4)
+
 module _ {T : Type 0} where
   -- `with_item` lists the items that are lower than `x`, then `x`, and then those that are higher.
   -- Example: For (2, 3), (1, 5) and (4, 3) it is (2, 3), (4, 3), (1, 5).
@@ -55,13 +61,15 @@ module _ {T : Type 0} where
   with_item by xs x = filter (λ y. is_lt (by y x)) xs ++ x ∷ filter (λ y. is_gt (by y x)) xs
 
   module _ {K S : Type 0} where
-    -- The map has the item besides those that it had, and they fit. The capacity grows only if the map was full, and the builder
-    -- stays.
+    -- The map has the item besides those that it had, and they fit. The capacity grows only if the map was full, and then as it may
+    -- for so many `wanted` (`most_grown`), which is 1 for an insert of one item. The builder stays.
     -- Example: A map of (2, 3) with the capacity 4 gains (1, 5), and has (2, 3), (1, 5) and the capacity 4 then.
-    pub record Gains (by : T → T → Ordering) (old : SortedValue T K S) (x : T) (new : SortedValue T K S) : Type 0 where
+    pub record Gains (by : T → T → Ordering) (wanted : ℕ) (old : SortedValue T K S) (x : T) (new : SortedValue T K S) : Type 0 where
       pub lists : items new ≡ with_item by (items old) x
+      pub more : length (items new) ≡ length (items old) + 1
       pub no_less_room : old.capacity ≤ new.capacity
       pub same_room : length (items old) < old.capacity → new.capacity ≡ old.capacity
+      pub most : new.capacity ≤ most_grown old.capacity (length (items old)) wanted
       pub fits : length (items new) ≤ new.capacity
       pub same_builder : new.builder ≡ old.builder
 
@@ -90,6 +98,12 @@ module _ {T K : Type 0} (sort : T → K) (cmp : K → K → Ordering) where
   -- Example: Between `Included 3` and `Excluded 5` are 3 and 4.
   abbrev pub within : Bound K → Bound K → T → Bool
   within low high x = is_from low x && is_to high x
+
+-- `most_extended` is the highest capacity of a map that was extended, if with what came there would be so many items at most: twice
+-- what it was, or room for nine times as many items, or for 65,536 more.
+-- Example: From the capacity 7, with 10 items, it is 65546, and with 10,000 items 90000.
+abbrev pub most_extended : ℕ → ℕ → ℕ
+most_extended capacity count = max (2 * capacity) (max (9 * count) (count + 65536))
 
 -- After `Ok`, `more` items fit beside those that are there. The call fails only if they did not fit before it, and it always
 -- fails if no map can hold them. The capacity grows only if they did not fit, and then to no more than is asked for, or twice

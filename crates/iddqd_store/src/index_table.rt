@@ -26,6 +26,7 @@ mod removal;
 mod searched;
 mod vacancy;
 
+pub use cells::SpareCells;
 pub use matcher::{KeyMatcher, Matcher};
 pub use meter::{Costs, Meter};
 pub use searched::Searched;

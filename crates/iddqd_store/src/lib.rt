@@ -22,10 +22,12 @@ pub use data::{HasData, KeepsKey, KeepsMade, KeepsPair};
 pub use differing::{Difference, ItemPair};
 pub use equivalent::Equivalent;
 pub use error::{DuplicateItem, FromIterError, InsertReason, MemoryRefused, TryReserveError};
-pub use index_table::{Costs, IndexTable, KeyMatcher, Matcher, Meter, Searched, Vacancy};
+pub use index_table::{
+    Costs, IndexTable, KeyMatcher, Matcher, Meter, Searched, SpareCells, Vacancy,
+};
 pub use item_set::{Batch, Cursor, IntoIter, ItemIndex, ItemSet, Iter};
 pub use lent::{ByPair, LendsPair};
-pub use load::{AHEAD, pairs_for, pairs_wanted, slots_wanted, wanted_above};
+pub use load::{AHEAD, at_once, pairs_for, pairs_wanted, slots_wanted};
 pub use made::{ByMade, Holds, Made, MakesKey};
 pub use query::Query;
 pub use rank::{ByQuery, FoundByHash, HashedKey, KeyOf, Lookup};

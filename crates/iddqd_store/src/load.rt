@@ -1,7 +1,7 @@
 //! The load of the tables: how many pairs a map makes its tables for. A search ends sooner the more of the cells are
 //! empty, so the tables of a small map have room for more pairs than its slots have room for items. The capacity of the
 //! map is then that of its slots.
-ghost use Rattle.std.specs.Prelude.{◌≡◌, ℕ, ◌+◌, ◌-◌, ◌*◌, ◌^◌, ◌<◌, ◌≤◌, IfNone, IfSome, min, max};
+ghost use Rattle.std.specs.Prelude.{◌≡◌, ℕ, ◌+◌, ◌-◌, ◌*◌, ◌/◌, ◌^◌, ◌<◌, ◌≤◌, IfNone, IfSome, min, max};
 ghost use Rattle.iddqd_store.specs.Table.Limit.{capacity_of, IsSparse};
 
 /// In a map with room for more items a table has no more cells than its pairs need.
@@ -93,12 +93,20 @@ pub fn slots_wanted(len: usize, room: usize, more: usize, cells: usize) -> usize
     more.max(most.min(sparse).saturating_sub(len))
 }
 
-/// Returns how many more a part of a map is asked for before the parts with the least room: what is wanted if it has
-/// more room than the map, and otherwise 0.
-pub fn wanted_above(room: usize, part: usize, wanted: usize) -> usize
-    ensures in_full { room < part → result ≡ wanted }
-    ensures above { 0 < result → room < part }
-    ensures most { result ≤ wanted }
+/// Returns for how many more items a map of `len` items reserves capacity at once where an iterator promises so many: for all of
+/// them, but for no more than 65,536, or eight times as many as there are. So an iterator that promises far more than it gives
+/// gets no more than nine times the room of what it gave. If a ninth of all is less than that, it is for a ninth of all, so that
+/// next time the rest is asked for at once: then each item but a ninth is inserted into the tables in which it stays.
+pub fn at_once(promised: usize, len: usize) -> usize
+    ensures some { 0 < promised → 0 < result }
+    ensures most { result ≤ max (8 * len) 65536 }
+    ensures all { promised ≤ max (8 * len) 65536 → result ≡ promised }
+    ensures part { max (8 * len) 65536 < promised → result ≡ min (max (8 * len) 65536) ((promised - 8 * len + 8) / 9) }
 {
-    if room < part { wanted } else { 0 }
+    let most = len.saturating_mul(8).max(AHEAD);
+    if promised <= most {
+        promised
+    } else {
+        most.min((promised - len * 8).div_ceil(9))
+    }
 }

@@ -12,7 +12,7 @@ use super::slots::Refusal;
 use super::slots::found::each_once;
 use crate::error::{ExtendUniqueError, FromIterError};
 use crate::item::Ranked;
-use iddqd_store::{AHEAD, Costs, DuplicateItem, MemoryRefused};
+use iddqd_store::{AHEAD, Costs, DuplicateItem, MemoryRefused, at_once};
 use std::alloc::Global;
 use std::hash::{BuildHasher, Hash};
 
@@ -20,9 +20,10 @@ impl<T: Ranked + Drop, S: BuildHasher> BiHashMap<T, S> {
     /// Inserts the items one by one, as `insert_overwrite` does, and drops the items that this removes.
     ///
     /// First the call reserves capacity for as many items as the iterator promises, or for half as many if the map has
-    /// items, since these may have the same keys. If that fails, the call goes on, and the map grows as it fills. If
-    /// there is no memory for an item, the error has that item. Those before it stay in the map, and the rest are
-    /// dropped with the iterator.
+    /// items, since these may have the same keys. When the map is full, it reserves capacity for those still promised, or
+    /// for one item if there is no memory for so many. Each time it asks for no more than 65,536 items, or eight times as
+    /// many as there are. If there is no memory for an item, the error has that item. Those before it stay in the map, and
+    /// the rest are dropped with the iterator.
     pub fn extend<I: IntoIterator<Item = T>>(&mut self, iter: I) -> Result<(), MemoryRefused<T>>
         requires finite { IsFiniteIterable I.into_iter_gives I.IntoIter.can_next I.IntoIter.remaining iter }
         // After `Ok`, each item was inserted in place of what conflicts with it; after an error, each item before the
@@ -41,17 +42,19 @@ impl<T: Ranked + Drop, S: BuildHasher> BiHashMap<T, S> {
             self.old self.new }
     {
         let items = iter.into_iter();
-        let promised = items.size_hint().0;
-        let wanted = if self.is_empty() {
-            promised
+        let mut left = items.size_hint().0;
+        let first = if self.is_empty() {
+            left
         } else {
-            promised.div_ceil(2)
+            left.div_ceil(2)
         };
         // This error is ignored: the call may succeed without the capacity, since the items may share keys.
-        let _ = self.grow(wanted, AHEAD);
+        let _ = self.grow(at_once(first, self.len()), AHEAD);
         self.note_that_items_fit();
         for item in items {
-            drop(self.insert_overwrite(item)?);
+            let wanted = left.max(1);
+            left = wanted - 1;
+            drop(self.insert_overwrite_counted(item, wanted, &mut Costs::new())?);
         }
         Ok(())
     }
@@ -64,9 +67,10 @@ impl<T: Ranked + Drop, S: BuildHasher> BiHashMap<T, S> {
     ///
     /// To insert an item, the call hashes each key of it once, and searches for it once. It allocates memory if the map
     /// is full, and for the list of the items inserted, by which an error returns them: each time for as many items as
-    /// the iterator still promises, or for one item if there is no memory for so many. For a list of no items it
-    /// allocates none. To remove the items again, it hashes each key of them once more, or each key of the other items if
-    /// these are fewer. It compares none then, and allocates no memory. After an error the capacity may have grown.
+    /// the iterator still promises, but for no more than 65,536 or eight times as many as there are, or for one item if
+    /// there is no memory for so many. For a list of no items it allocates none. To remove the items again, it hashes each
+    /// key of them once more, or each key of the other items if these are fewer. It compares none then, and allocates no
+    /// memory. After an error the capacity may have grown.
     ///
     /// ```text
     /// if let Err(refused) = map.extend_unique(batch) {
@@ -136,10 +140,9 @@ impl<T: Ranked + Drop, S: BuildHasher + Default + Drop> BiHashMap<T, S> {
 
     /// Makes a map of the items if no two of them conflict.
     ///
-    /// First the call reserves capacity for as many items as the iterator promises, and goes on if that fails. At the
-    /// first item that conflicts with some before it, the error has that item and those, in the order of the keys. If
-    /// there is no memory for an item, the error has that item. All other items are dropped, with the iterator, and
-    /// there is no map.
+    /// The call reserves capacity as `extend` does. At the first item that conflicts with some before it, the error has
+    /// that item and those, in the order of the keys. If there is no memory for an item, the error has that item. All
+    /// other items are dropped, with the iterator, and there is no map.
     pub fn from_iter_unique<I: IntoIterator<Item = T>>(
         alloc: Global,
         iter: I,
@@ -159,10 +162,13 @@ impl<T: Ranked + Drop, S: BuildHasher + Default + Drop> BiHashMap<T, S> {
     {
         let mut map = BiHashMap::default(alloc);
         let items = iter.into_iter();
+        let mut left = items.size_hint().0;
         // This error is ignored: an insert below asks again, where the map is full.
-        let _ = map.grow(items.size_hint().0, AHEAD);
+        let _ = map.grow(at_once(left, 0), AHEAD);
         for item in items {
-            match map.insert_or_refuse(item, &mut Costs::new()) {
+            let wanted = left.max(1);
+            left = wanted - 1;
+            match map.insert_or_refuse(item, wanted, &mut Costs::new()) {
                 Ok(()) => {}
                 Err(Refusal::Duplicate(item, found)) => {
                     let slots = each_once(found.0.slot(), found.1.slot());

@@ -29,18 +29,20 @@ impl<T: Ranked, S: BuildHasher> BiHashMap<T, S> {
         ensures unchanged { OnErr result (self.new ≡ self.old) }
         ensures reason { OnErr result (IsFullFor T.ranks self.old item) }
     {
-        self.insert_overwrite_counted(item, &mut Costs::new())
+        self.insert_overwrite_counted(item, 1, &mut Costs::new())
     }
 
     /// Inserts as `insert_overwrite` does, which calls it, and counts its costs, but for the cells that growing probes.
     /// Beside the searches, the number of its walks through each table is at most one more than the number of items that it
-    /// displaces.
+    /// displaces. If it has to grow, it asks for as many items as are `wanted`, or for one if there is no memory for so many.
     #[inline(always)]
-    fn insert_overwrite_counted(
+    pub(super) fn insert_overwrite_counted(
         &mut self,
         item: T,
+        wanted: usize,
         costs: &mut Costs,
     ) -> Result<UpToTwo<T>, MemoryRefused<T>>
+        requires { 0 < wanted }
         // The conflicting items are returned, in the order of the item's keys, and the item is in their place.
         ensures displaced { IfOk result (λ gone. gone ≡ conflicting T.ranks (bag self.old) item) }
         ensures overwrites { OnOk result (Overwrites T.ranks self.old item self.new) }
@@ -57,7 +59,7 @@ impl<T: Ranked, S: BuildHasher> BiHashMap<T, S> {
     {
         // What an insert needs, or an overwrite of one item, is inlined, so a caller's loop branches on the outcome where
         // it arises, and no item is copied from call to call. Growth is not inlined.
-        match self.insert_or_refuse(item, costs) {
+        match self.insert_or_refuse(item, wanted, costs) {
             Ok(()) => Ok(UpToTwo::new()),
             Err(Refusal::Duplicate(item, found)) => {
                 let (displaced, _) = self.overwrite(item, &found, &mut costs.probed);

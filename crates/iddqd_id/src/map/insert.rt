@@ -46,7 +46,7 @@ impl<T: Ranked, S: BuildHasher> IdHashMap<T, S> {
             T.IdHashItem T.Key.Hash S.BuildHasher S.Hasher.Hasher
             self.entry result (λ new. Gains self.old item new)) }
     {
-        match self.insert_or_refuse(item, &mut Costs::new()) {
+        match self.insert_or_refuse(item, 1, &mut Costs::new()) {
             Ok(()) => Ok(()),
             Err(Refusal::Duplicate(item, found)) => {
                 let slot = found.slot();
@@ -87,7 +87,7 @@ impl<T: Ranked, S: BuildHasher> IdHashMap<T, S> {
         ensures unchanged { OnErr result (self.new ≡ self.old) }
         ensures reason { IfErr result (λ e. TellsWhy T.IdHashItem T.Key.eq self.old item e) }
     {
-        match self.insert_or_refuse(item, &mut Costs::new()) {
+        match self.insert_or_refuse(item, 1, &mut Costs::new()) {
             Ok(()) => Ok(()),
             Err(Refusal::Duplicate(item, found)) => {
                 let taken = found.slot().is_some();

@@ -31,17 +31,20 @@ impl<T: Ranked, S: BuildHasher> IdHashMap<T, S> {
         ensures unchanged { OnErr result (self.new ≡ self.old) }
         ensures reason { OnErr result (IsFullFor T.ranks self.old item) }
     {
-        self.insert_overwrite_counted(item, &mut Costs::new())
+        self.insert_overwrite_counted(item, 1, &mut Costs::new())
     }
 
     /// Inserts as `insert_overwrite` does, which calls it, and counts its costs, but for the cells that growing probes.
-    /// Beside the search, it walks through the table at most twice.
+    /// Beside the search, it walks through the table at most twice. If it has to grow, it asks for as many items as are
+    /// `wanted`, or for one if there is no memory for so many.
     #[inline(always)]
-    fn insert_overwrite_counted(
+    pub(super) fn insert_overwrite_counted(
         &mut self,
         item: T,
+        wanted: usize,
         costs: &mut Costs,
     ) -> Result<Option<T>, MemoryRefused<T>>
+        requires { 0 < wanted }
         // The conflicting item is returned, and the item is in its place.
         ensures displaced { IfOk result (λ gone. option_to_list gone ≡ conflicting T.ranks (bag self.old) item) }
         ensures overwrites { OnOk result (Overwrites T.ranks self.old item self.new) }
@@ -58,7 +61,7 @@ impl<T: Ranked, S: BuildHasher> IdHashMap<T, S> {
     {
         // What an insert needs, or an overwrite of one item, is inlined, so a caller's loop branches on the outcome where
         // it arises, and no item is copied from call to call. Growth is not inlined.
-        match self.insert_or_refuse(item, costs) {
+        match self.insert_or_refuse(item, wanted, costs) {
             Ok(()) => Ok(None),
             Err(Refusal::Duplicate(item, found)) => {
                 let (displaced, _) = self.overwrite(item, &found, &mut costs.probed);

@@ -1,11 +1,11 @@
 //! Inserting many items at once, or none.
-ghost use Rattle.std.specs.Prelude.{◌≡◌, ◌≤◌, ◌+◌, ◌*◌, ◌^◌, ◌<◌, ◌++◌, ◌∷◌, [], ℕ, length, IsTrue, IfOk, IfErr, OnOk, OnErr};
+ghost use Rattle.std.specs.Prelude.{◌≡◌, ◌≤◌, ◌+◌, ◌*◌, ◌^◌, ◌<◌, ◌++◌, ◌∷◌, [], ℕ, length, IsTrue, IfOk, IfErr, MatchResult, OnOk, OnErr};
 ghost use Rattle.std.specs.Iterator.{IsFiniteIterable};
 ghost use Rattle.std.specs.List.{list_any};
 ghost use Rattle.iddqd_store.specs.Bag.Building.{FitsOn, GivesAll, GivesThen, MatchFromIterError};
 ghost use Rattle.iddqd_ord.specs.Batches.{AreFree, IsOrderOf};
 ghost use Rattle.iddqd_ord.specs.Inserts.{TellsWhyBehind};
-ghost use Rattle.iddqd_ord.specs.Items.{items, has_key_of, GrowsUnless};
+ghost use Rattle.iddqd_ord.specs.Items.{items, has_key_of, most_extended, GrowsUnless};
 ghost use Rattle.iddqd_ord.specs.Ordered.{IsAscending};
 ghost use Rattle.iddqd_ord.specs.Extensions.{AddsTo, HasPlaceFor, RefusesFor, with_items};
 ghost use Rattle.iddqd_order.specs.Row.{entries_in};
@@ -93,6 +93,10 @@ impl<T: IdOrdItem + Drop> IdOrdMap<T> {
             (λ xs. xs ≡ e.before.items)) }
         // It says whether one of the map or of those before it has its key. If none has, memory ran out.
         ensures reason { IfErr result (TellsWhyBehind T.IdOrdItem T.Key.cmp (items self.old)) }
+        // The capacity has a bound by how many items there are, or would be with those that came.
+        ensures most { MatchResult result
+            (λ _. self.new.capacity ≤ most_extended self.old.capacity (length (items self.new)))
+            (λ e. self.new.capacity ≤ most_extended self.old.capacity (length (items self.old) + length e.before.items + 1)) }
         ensures grows_unless { GrowsUnless
             (FitsOn I.into_iter_gives I.IntoIter.remaining iter (length (items self.old)) self.old.capacity)
             self.old self.new }
@@ -128,6 +132,7 @@ impl<T: IdOrdItem + Drop> IdOrdMap<T> {
         requires free { AreFree T.IdOrdItem T.Key.cmp (items self.old) before.old.items }
         ensures keeps { (items self.new ≡ items self.old) × GrowsUnless
             (length (items self.old) + (length before.old.items + 1) ≤ self.old.capacity) self.old self.new }
+        ensures most { self.new.capacity ≤ most_extended self.old.capacity (length (items self.old) + length before.old.items + 1) }
         ensures gathered { OnOk result ((before.new.items ≡ before.old.items ++ item ∷ [])
             × IsOrderOf T.IdOrdItem T.Key.cmp before.new.items (entries_in numbers.new)
             × AreFree T.IdOrdItem T.Key.cmp (items self.old) before.new.items
@@ -163,6 +168,7 @@ impl<T: IdOrdItem + Drop> IdOrdMap<T> {
     fn has_room_for(&mut self, count: usize) -> bool
         ensures items { items self.new ≡ items self.old }
         ensures grows_unless { GrowsUnless (length (items self.old) + (count + 1) ≤ self.old.capacity) self.old self.new }
+        ensures most { self.new.capacity ≤ most_extended self.old.capacity (length (items self.old) + count + 1) }
         ensures room { IsTrue result → length (items self.new) + (count + 1) ≤ self.new.capacity }
     {
         match count.checked_add(1) {

@@ -2,7 +2,7 @@
 ghost use Rattle.std.specs.Prelude.{◌≡◌, ◌+◌, ◌≤◌, ◌++◌, ◌∷◌, [], length, false, IsTrue, IfErr, OnOk, IsOk};
 ghost use Rattle.iddqd_ord.specs.Batches.{Gathers, StopsAt};
 ghost use Rattle.iddqd_ord.specs.Extensions.{ExtendsTo};
-ghost use Rattle.iddqd_ord.specs.Items.{items, GrowsUnless, IsFullFor};
+ghost use Rattle.iddqd_ord.specs.Items.{items, most_extended, GrowsUnless, IsFullFor};
 
 use super::IdOrdMap;
 use super::build::BLOCK;
@@ -102,6 +102,7 @@ impl<T: IdOrdItem + Drop> IdOrdMap<T> {
     fn has_room_for_all(&mut self, list: &[T]) -> bool
         ensures items { items self.new ≡ items self.old }
         ensures grows_unless { GrowsUnless (length (items self.old) + length list.now ≤ self.old.capacity) self.old self.new }
+        ensures most { self.new.capacity ≤ most_extended self.old.capacity (length (items self.old) + length list.now) }
         ensures room { IsTrue result → length (items self.new) + length list.now ≤ self.new.capacity }
         ensures unchanged { result ≡ false → self.new ≡ self.old }
     {

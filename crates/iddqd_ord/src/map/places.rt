@@ -1,5 +1,5 @@
 //! Single items and their places.
-ghost use Rattle.std.specs.Prelude.{◌≡◌, ◌≢◌, ℕ, true, false, ◌+◌, ◌-◌, ◌*◌, ◌^◌, ◌<◌, ◌≤◌, ◌∷◌, not, drop, length, IfSome, IfOk, IfErr, slice_get, slice_index_or, slice_set, OnOk, OnErr};
+ghost use Rattle.std.specs.Prelude.{◌≡◌, ◌≢◌, ℕ, true, false, ◌+◌, ◌-◌, ◌*◌, ◌^◌, ◌<◌, ◌≤◌, ◌∷◌, not, drop, length, max, IfSome, IfOk, IfErr, slice_get, slice_index_or, slice_set, OnOk, OnErr};
 ghost use Rattle.std.specs.List.{insert, remove};
 ghost use Rattle.std.specs.Option.{option_and_then};
 ghost use Rattle.iddqd_store.specs.Bag.{IsOnly};
@@ -222,6 +222,7 @@ impl<T: IdOrdItem> IdOrdMap<T> {
         ensures blocks { self.new.blocks ≡ self.old.blocks }
         ensures no_less_room { self.old.capacity ≤ self.new.capacity }
         ensures same_room { length (items self.old) < self.old.capacity → self.new ≡ self.old }
+        ensures most { self.new.capacity ≤ max (2 * self.old.capacity) 4 }
         ensures room { OnOk result (length (items self.old) < self.new.capacity) }
         ensures reason { OnErr result (length (items self.old) ≡ self.old.capacity) }
         ensures unchanged { OnErr result (self.new ≡ self.old) }

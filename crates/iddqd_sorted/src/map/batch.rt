@@ -5,12 +5,12 @@ ghost use Rattle.iddqd_store.specs.Bag.{IsSound, conflicts_of, tests_of};
 ghost use Rattle.iddqd_store.specs.SlotMap.{AreAny};
 ghost use Rattle.iddqd_store.specs.Slots.{IsLive};
 ghost use Rattle.iddqd_store.specs.Slots.Found.{items_at, StandAt};
-ghost use Rattle.iddqd_sorted.specs.Items.{GrowsUnless, items, by_sort, with_item};
+ghost use Rattle.iddqd_sorted.specs.Items.{GrowsUnless, items, by_sort, most_grown, with_item};
 ghost use Rattle.iddqd_sorted.specs.Ordered.{IsAscending};
 
 use super::Sorted;
 use crate::item::Sortable;
-use iddqd_store::{AHEAD, Batch, Costs, Meter, SlotMap, TryReserveError};
+use iddqd_store::{Batch, Costs, Meter, SlotMap, TryReserveError};
 
 impl<M: SlotMap> Sorted<M>
 where
@@ -41,6 +41,7 @@ where
         ensures same_blocks { OnErr result (self.new.blocks ≡ self.old.blocks) }
         ensures same_notes { OnErr result (batch.new.slots ≡ batch.old.slots) }
         ensures grows_unless { GrowsUnless (length (items self.old) < self.old.capacity) self.old self.new }
+        ensures most { self.new.capacity ≤ most_grown self.old.capacity (length (items self.old)) wanted }
         ensures sound { IsSound M.ranks (items self.old) }
         ensures ascending { IsAscending (by_sort M.Item.sort_key M.Item.SortKey.cmp M.first_key M.FirstKey.cmp) (items self.old) }
     {
@@ -82,31 +83,13 @@ where
         ensures builder { self.new.builder ≡ self.old.builder }
         ensures no_less_room { self.old.capacity ≤ self.new.capacity }
         ensures same_room { length (items self.old) < self.old.capacity → self.new.capacity ≡ self.old.capacity }
+        ensures most { self.new.capacity ≤ most_grown self.old.capacity (length (items self.old)) wanted }
         ensures room { OnOk result (length (items self.old) < self.new.capacity) }
     {
         if full {
             return self.grow_for(wanted);
         }
         Ok(())
-    }
-
-    /// Reserves capacity for as many more items as are `wanted`, or for one if there is no memory for so many. If that fails, the
-    /// map is as before.
-    #[cold]
-    #[inline(never)]
-    fn grow_for(&mut self, wanted: usize) -> Result<(), TryReserveError>
-        requires { 0 < wanted }
-        ensures slots { self.new.slots ≡ self.old.slots }
-        ensures blocks { self.new.blocks ≡ self.old.blocks }
-        ensures builder { self.new.builder ≡ self.old.builder }
-        ensures no_less_room { self.old.capacity ≤ self.new.capacity }
-        ensures room { OnOk result (length (items self.old) < self.new.capacity) }
-    {
-        // For one alone the same request would be made twice.
-        if wanted > 1 && self.grow(wanted, AHEAD).is_ok() {
-            return Ok(());
-        }
-        self.grow(1, AHEAD)
     }
 
     /// Removes the inserted items again, in the order in which they were inserted. The call hashes each key of them once, and

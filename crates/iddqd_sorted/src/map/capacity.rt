@@ -1,13 +1,13 @@
 //! How many items there are and how many fit, and growing.
-ghost use Rattle.std.specs.Prelude.{[], ◌≡◌, ◌+◌, ◌<◌, ◌≤◌, ◌==◌, length, min, IsErr, OnOk, OnErr};
+ghost use Rattle.std.specs.Prelude.{[], ◌≡◌, ◌+◌, ◌*◌, ◌<◌, ◌≤◌, ◌==◌, length, max, min, IsErr, OnOk, OnErr};
 ghost use Rattle.iddqd_store.specs.Bag.{IsSound};
 ghost use Rattle.iddqd_store.specs.Table.Limit.{most_room};
-ghost use Rattle.iddqd_sorted.specs.Items.{items, by_sort, MakesRoom};
+ghost use Rattle.iddqd_sorted.specs.Items.{items, by_sort, most_grown, MakesRoom};
 ghost use Rattle.iddqd_sorted.specs.Ordered.{IsAscending};
 
 use super::Sorted;
 use crate::item::Sortable;
-use iddqd_store::{AHEAD, SlotMap, TryReserveError};
+use iddqd_store::{AHEAD, SlotMap, TryReserveError, at_once};
 
 impl<M: SlotMap> Sorted<M>
 where
@@ -41,7 +41,7 @@ where
     /// Reserves capacity for this many more items. If they fit already, the call allocates no memory. It compares no key.
     ///
     /// The call fails if an allocation fails, or if the number of items would be too large for memory. Then the map is as before,
-    /// but the map inside or the order may have more room, which serves a later call. The capacity grows to no more than is asked
+    /// and what it got goes back. The capacity grows to no more than is asked
     /// for, or twice what it was, or 4. Room that the order has beyond that goes back.
     pub fn reserve(&mut self, more: usize) -> Result<(), TryReserveError>
         ensures items { items self.new ≡ items self.old }
@@ -89,8 +89,8 @@ where
         Ok(())
     }
 
-    /// Reserves capacity in the map inside and in the order. What bounds the capacity grows last: so if a step fails, that part is
-    /// as before, and the capacity with it.
+    /// Reserves capacity in the order and in the map inside. If the order cannot grow, nothing has; if the map inside cannot,
+    /// the order gives back what it got. So after an error both are as before.
     fn grow_both(&mut self, more: usize, ahead: usize) -> Result<(), TryReserveError>
         ensures slots { self.new.slots ≡ self.old.slots }
         ensures blocks { self.new.blocks ≡ self.old.blocks }
@@ -102,13 +102,15 @@ where
         ensures builder { self.new.builder ≡ self.old.builder }
         ensures unchanged { OnErr result (self.new ≡ self.old) }
     {
-        if self.map.capacity() <= self.order.capacity() {
-            self.order.try_reserve(more)?;
-            return self.map.grow(more, ahead);
-        }
-        self.map.grow(more, ahead)?;
+        let room = self.order.capacity();
         self.order.try_reserve(more)?;
-        Ok(())
+        match self.map.grow(more, ahead) {
+            Ok(()) => Ok(()),
+            Err(refused) => {
+                self.order.lower_capacity(room);
+                Err(refused)
+            }
+        }
     }
 
     /// Lowers the capacity of the order to this one, if it is higher, and gives the memory back that it does not need.
@@ -124,21 +126,46 @@ where
         }
     }
 
-    /// Reserves capacity for one more item if the map is full. If that fails, the map is as before.
+    /// Reserves capacity for as many more items as are `wanted` (`at_once`) if the map is full, or for one if there is no memory for
+    /// so many. If that fails too, the map is as before.
     #[inline(always)]
-    pub(super) fn make_room(&mut self) -> Result<(), TryReserveError>
+    pub(super) fn make_room(&mut self, wanted: usize) -> Result<(), TryReserveError>
+        requires { 0 < wanted }
         ensures slots { self.new.slots ≡ self.old.slots }
         ensures blocks { self.new.blocks ≡ self.old.blocks }
         ensures builder { self.new.builder ≡ self.old.builder }
         ensures no_less_room { self.old.capacity ≤ self.new.capacity }
         ensures same_room { length (items self.old) < self.old.capacity → self.new ≡ self.old }
+        ensures most { self.new.capacity ≤ most_grown self.old.capacity (length (items self.old)) wanted }
         ensures room { OnOk result (length (items self.old) < self.new.capacity) }
         ensures reason { OnErr result (length (items self.old) ≡ self.old.capacity) }
         ensures unchanged { OnErr result (self.new ≡ self.old) }
     {
         if self.len() == self.capacity() {
-            self.grow(1, AHEAD)?;
+            return self.grow_for(wanted);
         }
         Ok(())
+    }
+
+    /// Reserves capacity for as many more items as are `wanted` (`at_once`), or for one if there is no memory for so many. If that
+    /// fails, the map is as before.
+    #[cold]
+    #[inline(never)]
+    pub(super) fn grow_for(&mut self, wanted: usize) -> Result<(), TryReserveError>
+        requires { 0 < wanted }
+        ensures slots { self.new.slots ≡ self.old.slots }
+        ensures blocks { self.new.blocks ≡ self.old.blocks }
+        ensures builder { self.new.builder ≡ self.old.builder }
+        ensures no_less_room { self.old.capacity ≤ self.new.capacity }
+        ensures most { self.new.capacity ≤ most_grown self.old.capacity (length (items self.old)) wanted }
+        ensures room { OnOk result (length (items self.old) < self.new.capacity) }
+        ensures unchanged { OnErr result (self.new ≡ self.old) }
+    {
+        let wanted = at_once(wanted, self.len());
+        // For one alone the same request would be made twice.
+        if wanted > 1 && self.grow(wanted, AHEAD).is_ok() {
+            return Ok(());
+        }
+        self.grow(1, AHEAD)
     }
 }

@@ -4,8 +4,8 @@ ghost use Rattle.std.specs.Iterator.{IsFiniteIterable};
 ghost use Rattle.iddqd_store.specs.Bag.{conflicts_of};
 ghost use Rattle.iddqd_store.specs.Bag.Building.{GivesAll, GivesThen};
 ghost use Rattle.iddqd_sorted.specs.Batches.{AddsInOrder, TellsWhyBehind};
-ghost use Rattle.iddqd_sorted.specs.Items.{items, by_sort};
-ghost use Rattle.iddqd_sorted.specs.Overwriting.{overwritten};
+ghost use Rattle.iddqd_sorted.specs.Items.{items, by_sort, most_extended};
+ghost use Rattle.iddqd_sorted.specs.Overwriting.{ExtendsTo, overwritten};
 
 use super::Sorted;
 use crate::error::ExtendUniqueError;
@@ -32,6 +32,9 @@ where
         ensures all { IfOk result (λ map. GivesAll I.into_iter_gives I.IntoIter.next_gives iter (λ xs. items map
             ≡ fold (overwritten M.ranks (by_sort M.Item.sort_key M.Item.SortKey.cmp M.first_key M.FirstKey.cmp)) [] xs)) }
         ensures fits { IfOk result (λ map. length (items map) ≤ map.capacity) }
+        // Whatever the iterator promises, the capacity has a bound by what it gave.
+        ensures most { IfOk result (λ map. GivesAll I.into_iter_gives I.IntoIter.next_gives iter (λ xs. map.capacity
+            ≤ most_extended 0 (length xs))) }
         // The error has the first item for which there was no memory. Nothing conflicts with it.
         ensures refused { IfErr result (λ e. GivesThen I.into_iter_gives I.IntoIter.next_gives iter e.value (λ xs. conflicts_of M.ranks
             (fold (overwritten M.ranks (by_sort M.Item.sort_key M.Item.SortKey.cmp M.first_key M.FirstKey.cmp)) [] xs) e.value ≡ [])) }
@@ -57,6 +60,7 @@ where
         // The map has all that the iterator gave, in order.
         ensures all { IfOk result (λ map. GivesAll I.into_iter_gives I.IntoIter.next_gives iter (AddsInOrder M.ranks
             (by_sort M.Item.sort_key M.Item.SortKey.cmp M.first_key M.FirstKey.cmp) [] (items map))) }
+        ensures most { IfOk result (λ map. map.capacity ≤ most_extended 0 (length (items map))) }
         // The error has the first item that could not be inserted, and those before it.
         ensures refused { IfErr result (λ e. GivesThen I.into_iter_gives I.IntoIter.next_gives iter (M.rejected_item e.rejected)
             (λ xs. xs ≡ e.before.items)) }
@@ -99,9 +103,8 @@ where
     M::Item: Sortable + Drop,
     M::FirstKey: Ord,
 {
-    ghost extend_gives = { λ m xs n. (items n
-        ≡ fold (overwritten M.ranks (by_sort M.Item.sort_key M.Item.SortKey.cmp M.first_key M.FirstKey.cmp)) (items m) xs)
-        × (length (items n) ≤ n.capacity) };
+    ghost extend_gives = { λ m xs n. ExtendsTo M.ranks
+        (by_sort M.Item.sort_key M.Item.SortKey.cmp M.first_key M.FirstKey.cmp) m xs n };
 
     fn extend<U: IntoIterator<Item = M::Item>>(&mut self, iter: U) -> Result<(), AllocError> {
         Ok(Sorted::extend(self, iter)?)

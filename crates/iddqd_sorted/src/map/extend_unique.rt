@@ -1,9 +1,9 @@
 //! Inserting many items at once, or none.
-ghost use Rattle.std.specs.Prelude.{◌≡◌, length, IfErr, OnOk, OnErr};
+ghost use Rattle.std.specs.Prelude.{◌≡◌, ◌+◌, ◌≤◌, length, IfErr, MatchResult, OnOk, OnErr};
 ghost use Rattle.std.specs.Iterator.{IsFiniteIterable};
 ghost use Rattle.iddqd_store.specs.Bag.Building.{FitsOn, GivesAll, GivesThen};
 ghost use Rattle.iddqd_sorted.specs.Batches.{AddsInOrder, TellsWhyBehind};
-ghost use Rattle.iddqd_sorted.specs.Items.{GrowsUnless, items, by_sort};
+ghost use Rattle.iddqd_sorted.specs.Items.{GrowsUnless, items, by_sort, most_extended};
 
 use super::Sorted;
 use crate::error::ExtendUniqueError;
@@ -25,8 +25,8 @@ where
     ///
     /// To insert an item, the call hashes each key of it once, searches for it once, and compares as many sort keys as `try_insert`
     /// does. It allocates memory if the map is full, and for the list of the items inserted, by which an error returns them: each
-    /// time for as many items as the iterator still promises, or for one item if there is no memory for so many. For a list of no
-    /// items it allocates none. To remove the items again, it hashes each key of them once more, searches for the place of each in
+    /// time for as many items as the iterator still promises, but for no more than 65,536 or eight times as many as there are, or
+    /// for one item if there is no memory for so many. For a list of no items it allocates none. To remove the items again, it hashes each key of them once more, searches for the place of each in
     /// the order, and allocates no memory. After an error the capacity may have grown.
     ///
     /// ```text
@@ -52,6 +52,10 @@ where
         // It says which keys of the item are taken, in the map or among those before it. If none is, memory ran out.
         ensures reason { IfErr result (λ e. TellsWhyBehind M.ranks (items self.old) e.before.items
             (M.rejected_item e.rejected) (M.rejected_flags e.rejected)) }
+        // Whatever the iterator promises, the capacity has a bound by how many items there are, or would be with those that came.
+        ensures most { MatchResult result
+            (λ _. self.new.capacity ≤ most_extended self.old.capacity (length (items self.new)))
+            (λ e. self.new.capacity ≤ most_extended self.old.capacity (length (items self.old) + length e.before.items + 1)) }
         ensures grows_unless { GrowsUnless
             (FitsOn I.into_iter_gives I.IntoIter.remaining iter (length (items self.old)) self.old.capacity)
             self.old self.new }

@@ -36,7 +36,7 @@ where
     /// asks for more capacity only if the map is full.
     pub fn try_insert(&mut self, item: M::Item) -> Result<(), M::Rejected>
         // The result is `Ok` only if no item has one of the keys, and then always if there is spare capacity.
-        ensures gains { OnOk result (Gains (by_sort M.Item.sort_key M.Item.SortKey.cmp M.first_key M.FirstKey.cmp) self.old item self.new) }
+        ensures gains { OnOk result (Gains (by_sort M.Item.sort_key M.Item.SortKey.cmp M.first_key M.FirstKey.cmp) 1 self.old item self.new) }
         ensures free { OnOk result (conflicts_of M.ranks (items self.old) item ≡ []) }
         ensures granted { conflicts_of M.ranks (items self.old) item ≡ []
             → length (items self.old) < self.old.capacity → IsOk result }
@@ -57,7 +57,7 @@ where
         costs: &mut Costs,
         meter: &mut Meter,
     ) -> Result<(), M::Rejected>
-        ensures gains { OnOk result (Gains (by_sort M.Item.sort_key M.Item.SortKey.cmp M.first_key M.FirstKey.cmp) self.old item self.new) }
+        ensures gains { OnOk result (Gains (by_sort M.Item.sort_key M.Item.SortKey.cmp M.first_key M.FirstKey.cmp) 1 self.old item self.new) }
         ensures free { OnOk result (conflicts_of M.ranks (items self.old) item ≡ []) }
         ensures granted { conflicts_of M.ranks (items self.old) item ≡ []
             → length (items self.old) < self.old.capacity → IsOk result }
@@ -72,26 +72,29 @@ where
             Ok(at) => at,
             Err(found) => return Err(M::reject(item, M::taken(&found))),
         };
-        match self.insert_free(item, at, &mut costs.probed, meter) {
+        match self.insert_free(item, at, 1, &mut costs.probed, meter) {
             Ok(()) => Ok(()),
             Err(item) => Err(M::reject(item, M::none_taken())),
         }
     }
 
-    /// Inserts an item with which nothing conflicts, at the places that the searches for its keys found. If the map is full and there
-    /// is no memory to grow, the item is handed back, and the map is as it was.
+    /// Inserts an item with which nothing conflicts, at the places that the searches for its keys found. A full map grows for as many
+    /// items as are `wanted`, or for one if there is no memory for so many. If there is none for one, the item is handed back, and the
+    /// map is as it was.
     #[inline(always)]
     pub(super) fn insert_free(
         &mut self,
         item: M::Item,
         at: M::Places,
+        wanted: usize,
         probed: &mut Meter,
         meter: &mut Meter,
     ) -> Result<(), M::Item>
+        requires wanted { 0 < wanted }
         requires free { conflicts_of M.ranks (items self.old) item ≡ [] }
         requires free_slots { conflicts_of M.ranks (bag self.old) item ≡ [] }
         requires places { ArePlacesOf (M.hashes self.old.builder) (bag self.old) item (M.spots at) }
-        ensures gains { OnOk result (Gains (by_sort M.Item.sort_key M.Item.SortKey.cmp M.first_key M.FirstKey.cmp) self.old item self.new) }
+        ensures gains { OnOk result (Gains (by_sort M.Item.sort_key M.Item.SortKey.cmp M.first_key M.FirstKey.cmp) wanted self.old item self.new) }
         ensures granted { length (items self.old) < self.old.capacity → IsOk result }
         ensures handed_back { IfErr result (λ x. x ≡ item) }
         ensures unchanged { OnErr result (self.new ≡ self.old) }
@@ -103,7 +106,7 @@ where
         let Err(place) = self.place_of(&item, meter) else {
             unreachable!()
         };
-        if let Err(_) = self.make_room() {
+        if let Err(_) = self.make_room(wanted) {
             return Err(item);
         }
         self.insert_into(item, at, place, probed);

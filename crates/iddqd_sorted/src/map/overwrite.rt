@@ -35,7 +35,7 @@ where
     ) -> Result<UpToThree<M::Item>, MemoryRefused<M::Item>>
         // The conflicting items are returned, in the order of the item's keys, and the item is in their place.
         ensures displaced { IfOk result (λ gone. gone ≡ conflicting M.ranks (items self.old) item) }
-        ensures overwrites { OnOk result (Overwrites M.ranks (by_sort M.Item.sort_key M.Item.SortKey.cmp M.first_key M.FirstKey.cmp) self.old item self.new) }
+        ensures overwrites { OnOk result (Overwrites M.ranks (by_sort M.Item.sort_key M.Item.SortKey.cmp M.first_key M.FirstKey.cmp) 1 self.old item self.new) }
         // With spare capacity the call never fails.
         ensures granted { length (items self.old) < self.old.capacity → IsOk result }
         // The error has the item, and the map is as it was. This happens only in a full map, without a conflict.
@@ -43,7 +43,7 @@ where
         ensures unchanged { OnErr result (self.new ≡ self.old) }
         ensures reason { OnErr result (IsFullFor M.ranks self.old item) }
     {
-        self.insert_overwrite_counted(item, &mut Costs::new(), &mut Meter::new())
+        self.insert_overwrite_counted(item, 1, &mut Costs::new(), &mut Meter::new())
     }
 
     /// Inserts as `insert_overwrite` does, which calls it, and counts what the searches for the keys cost, and the comparisons in the
@@ -53,11 +53,13 @@ where
     pub(super) fn insert_overwrite_counted(
         &mut self,
         item: M::Item,
+        wanted: usize,
         costs: &mut Costs,
         meter: &mut Meter,
     ) -> Result<UpToThree<M::Item>, MemoryRefused<M::Item>>
+        requires wanted { 0 < wanted }
         ensures displaced { IfOk result (λ gone. gone ≡ conflicting M.ranks (items self.old) item) }
-        ensures overwrites { OnOk result (Overwrites M.ranks (by_sort M.Item.sort_key M.Item.SortKey.cmp M.first_key M.FirstKey.cmp) self.old item self.new) }
+        ensures overwrites { OnOk result (Overwrites M.ranks (by_sort M.Item.sort_key M.Item.SortKey.cmp M.first_key M.FirstKey.cmp) wanted self.old item self.new) }
         ensures granted { length (items self.old) < self.old.capacity → IsOk result }
         ensures handed_back { IfErr result (λ e. e.value ≡ item) }
         ensures unchanged { OnErr result (self.new ≡ self.old) }
@@ -72,7 +74,7 @@ where
             Ok(at) => at,
             Err(found) => return Ok(self.overwrite(item, &found, &mut costs.probed, meter)),
         };
-        match self.insert_free(item, at, &mut costs.probed, meter) {
+        match self.insert_free(item, at, wanted, &mut costs.probed, meter) {
             Ok(()) => Ok(UpToThree::new()),
             Err(value) => Err(MemoryRefused { value }),
         }

@@ -1,6 +1,6 @@
 //! Replacing an item by another, whatever their keys are.
-ghost use Rattle.std.specs.Prelude.{◌≡◌, ℕ, ◌+◌, ◌*◌, ◌^◌, ◌<◌, ◌≤◌, not, filter, length, map, Some, IfOk, IfErr, OnOk, OnErr};
-ghost use Rattle.iddqd_store.specs.Bag.{IsOnly};
+ghost use Rattle.std.specs.Prelude.{[], ◌≡◌, ℕ, ◌+◌, ◌*◌, ◌^◌, ◌<◌, ◌≤◌, not, filter, length, map, Some, IfOk, IfErr, OnOk, OnErr};
+ghost use Rattle.iddqd_store.specs.Bag.{IsOnly, conflicts_of};
 ghost use Rattle.iddqd_store.specs.Rank.All.{hashes_of};
 ghost use Rattle.iddqd_sorted.specs.Items.{items, bag, by_sort, with_item};
 ghost use Rattle.iddqd_sorted.specs.Keeping.{ComparesOnceIf, SharePlace};
@@ -43,6 +43,9 @@ where
         ensures found { IfOk result (λ x. IsOnly (λ y. Q.stands_for query (⟦<M as FindsBy<R>>⟧.key y)) (items self.old) (Some x)) }
         ensures puts { OnOk result (items self.new ≡ with_item (by_sort M.Item.sort_key M.Item.SortKey.cmp M.first_key M.FirstKey.cmp)
             (filter (λ y. not (Q.stands_for query (⟦<M as FindsBy<R>>⟧.key y))) (items self.old)) item) }
+        // None of the others has one of the item's keys, so `with_item` leaves none of them out.
+        ensures free { OnOk result (conflicts_of M.ranks
+            (filter (λ y. not (Q.stands_for query (⟦<M as FindsBy<R>>⟧.key y))) (items self.old)) item ≡ []) }
         ensures capacity { self.new.capacity ≡ self.old.capacity }
         ensures builder { self.new.builder ≡ self.old.builder }
         ensures handed_back { IfErr result (λ e. refused_item e ≡ item) }

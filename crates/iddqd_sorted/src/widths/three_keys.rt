@@ -1,8 +1,8 @@
 //! Items with three keys.
-ghost use Rattle.std.specs.Prelude.{◌≡◌, true, false, not, filter, option_copied, Some, IfNone, IfOk, IfErr, OnOk, OnErr};
+ghost use Rattle.std.specs.Prelude.{[], ◌≡◌, true, false, not, filter, option_copied, Some, IfNone, IfOk, IfErr, OnOk, OnErr};
 ghost use Rattle.std.specs.Fn.{FnOnceReturnsAt, FnOnceTakesAt};
 ghost use Rattle.std.specs.List.{list_any};
-ghost use Rattle.iddqd_store.specs.Bag.{IsOnly};
+ghost use Rattle.iddqd_store.specs.Bag.{IsOnly, conflicts_of};
 ghost use Rattle.iddqd_tri.specs.Keys.{has1, has2, has3};
 ghost use Rattle.iddqd_tri.specs.Rekeyed.{TellsWhyNot, refused_item};
 ghost use Rattle.iddqd_sorted.specs.Items.{items, by_sort, with_item};
@@ -124,6 +124,9 @@ where
         ensures found { IfOk result (λ x. IsOnly (has1 T.TriHashItem Q.stands_for query) (items self.old) (Some x)) }
         ensures puts { OnOk result (items self.new ≡ with_item (by_sort T.sort_key T.SortKey.cmp T.key1 T.K1.cmp)
             (filter (λ y. not (has1 T.TriHashItem Q.stands_for query y)) (items self.old)) item) }
+        // None of the others has one of its keys, so that no third item leaves.
+        ensures free { OnOk result (conflicts_of ⟦<T as Ranked>⟧.ranks
+            (filter (λ y. not (has1 T.TriHashItem Q.stands_for query y)) (items self.old)) item ≡ []) }
         ensures capacity { self.new.capacity ≡ self.old.capacity }
         ensures builder { self.new.builder ≡ self.old.builder }
         ensures handed_back { IfErr result (λ e. refused_item e ≡ item) }
@@ -150,6 +153,9 @@ where
         ensures found { IfOk result (λ x. IsOnly (has2 T.TriHashItem Q.stands_for query) (items self.old) (Some x)) }
         ensures puts { OnOk result (items self.new ≡ with_item (by_sort T.sort_key T.SortKey.cmp T.key1 T.K1.cmp)
             (filter (λ y. not (has2 T.TriHashItem Q.stands_for query y)) (items self.old)) item) }
+        // None of the others has one of its keys, so that no third item leaves.
+        ensures free { OnOk result (conflicts_of ⟦<T as Ranked>⟧.ranks
+            (filter (λ y. not (has2 T.TriHashItem Q.stands_for query y)) (items self.old)) item ≡ []) }
         ensures capacity { self.new.capacity ≡ self.old.capacity }
         ensures builder { self.new.builder ≡ self.old.builder }
         ensures handed_back { IfErr result (λ e. refused_item e ≡ item) }
@@ -176,6 +182,9 @@ where
         ensures found { IfOk result (λ x. IsOnly (has3 T.TriHashItem Q.stands_for query) (items self.old) (Some x)) }
         ensures puts { OnOk result (items self.new ≡ with_item (by_sort T.sort_key T.SortKey.cmp T.key1 T.K1.cmp)
             (filter (λ y. not (has3 T.TriHashItem Q.stands_for query y)) (items self.old)) item) }
+        // None of the others has one of its keys, so that no third item leaves.
+        ensures free { OnOk result (conflicts_of ⟦<T as Ranked>⟧.ranks
+            (filter (λ y. not (has3 T.TriHashItem Q.stands_for query y)) (items self.old)) item ≡ []) }
         ensures capacity { self.new.capacity ≡ self.old.capacity }
         ensures builder { self.new.builder ≡ self.old.builder }
         ensures handed_back { IfErr result (λ e. refused_item e ≡ item) }

@@ -1,11 +1,13 @@
 -- Lemmas for the growth of a map, whose capacity is the least of those of its slots and tables.
-use Rattle.std.specs.Prelude.{◌≡◌, ◌+◌, ◌<◌, ◌≤◌, ℕ, suc, [], ◌∷◌, List, Option, Result, Ok, Err, IsErr, IsPermutation, length, max, ⊤}
+use Rattle.std.specs.Prelude.{◌≡◌, ◌+◌, ◌<◌, ◌≤◌, ℕ, suc, [], ◌∷◌, List, Option, Result, Ok, Err, IsErr, IsPermutation, length, min, max, ⊤}
 use Rattle.std.proofs.Common.{arith, refl, ap, subst, ◌∙◌}
 use Rattle.iddqd_store.specs.Bag.{Ranks}
 use Rattle.iddqd_store.specs.Map.{Map, bag, Gains, GrowsUnless, PutsAt, Reserves}
 use Rattle.iddqd_store.specs.Rank.Index.{AreIndexes, IsIndexed}
 use Rattle.iddqd_store.specs.Slots.{contents, live_count}
-use Rattle.iddqd_store.specs.Table.Limit.{most_room}
+use Rattle.iddqd_store.specs.Table.{Table}
+use Rattle.iddqd_store.specs.Table.Limit.{capacity_of, most_room}
+use Rattle.iddqd_store.specs.Table.Room.{IsSpareFor}
 use Rattle.iddqd_store.proofs.MapLemmas.{MakesRoom-err}
 use Rattle.iddqd_store.proofs.RankLemmas.Index.{length-index}
 use Rattle.iddqd_store.proofs.SlotLemmas.Contents.{length-contents}
@@ -17,6 +19,37 @@ AreAsMany n (pairs ∷ tables) = (length pairs ≡ n) × AreAsMany n tables
 
 abbrev pub the_map : {T S : Type 0} → List (Option T) → ℕ → S → Map T S
 the_map slots capacity builder = record { slots = slots; capacity = capacity; builder = builder }
+
+-- What a part of a map, its slots or one table, holds before and after a growth: no less, the same if `fits` holds, and then
+-- as many as were `asked` for.
+pub record Roomier (fits : Type 0) (asked before after : ℕ) : Type 0 where
+  pub no_less : before ≤ after
+  pub same : fits → after ≡ before
+  pub enough : asked ≤ after
+
+module _ {fits : Type 0} where
+  -- the least of two parts
+  pub least_of : {asked one one_after two two_after : ℕ} → Roomier fits asked one one_after → Roomier fits asked two two_after
+      → Roomier fits asked (min one two) (min one_after two_after)
+  least_of first second = record {
+    no_less = omega (arith, first.no_less, second.no_less);
+    same = λ all. rw (first.same all, second.same all) refl;
+    enough = omega (arith, first.enough, second.enough);
+  }
+
+  module _ (held : ℕ) {more : ℕ} where
+    -- slots, which grow to what was asked for
+    pub slots_grow : {asked before after : ℕ} → more ≤ asked → (held + more ≤ before → asked ≡ more) → after ≡ max before (held + asked)
+        → (fits → held + more ≤ before) → Roomier fits (held + more) before after
+    slots_grow enough as_asked is within =
+        record { no_less = omega (arith, is); same = λ all. omega (arith, is, as_asked (within all), within all); enough = omega (arith, is, enough) }
+
+    -- a table, which takes the spare cells over that were asked for
+    pub table_grows : {table grown : Table} {wanted spare : ℕ} → length table.pairs ≡ held → more ≤ wanted → IsSpareFor table wanted spare
+        → (spare ≡ 0 → grown ≡ table) → (0 < spare → grown.limit ≡ capacity_of spare)
+        → (fits → wanted ≡ more) → (fits → held + more ≤ table.limit) → Roomier fits (held + more) table.limit grown.limit
+    table_grows count enough spare_is stays limit as_asked within =
+        record { no_less = grind arith; same = λ all. grind (arith, as_asked all, within all); enough = grind arith }
 
 module _ {T : Type 0} where
   as_many : (hashes : List (T → ℕ)) (slots : List (Option T)) (tables : List (List (ℕ × ℕ))) → AreIndexes hashes slots tables → AreAsMany (live_count slots) tables
@@ -39,31 +72,24 @@ module _ {T : Type 0} where
 
     -- a call that succeeds has made room
     pub grows : {x : A} → the_map slots capacity builder ≡ old → to_slots ≡ slots → IsIndexed ranks hashes slots tables
-        → (AreAsMany (live_count slots) tables → (most_room < live_count slots + more → ⊥) × (capacity ≤ to_capacity)
-        × (live_count slots + more ≤ capacity → to_capacity ≡ capacity))
-        → (AreAsMany (live_count slots) tables → live_count slots + more ≤ to_capacity)
+        → (AreAsMany (live_count slots) tables → (most_room < live_count slots + more → (let r : Result A E = Ok x in IsErr r))
+        × Roomier (live_count slots + more ≤ capacity) (live_count slots + more) capacity to_capacity)
         → Reserves {A = A} {E = E} old more (Ok x) (the_map to_slots to_capacity builder)
-    grows seen at_slots indexed so fits =
-        let all = as_many hashes slots tables indexed.indexes in
-        let found = so all in
+    grows seen at_slots indexed so =
+        let found = so (as_many hashes slots tables indexed.indexes) in
         let held = length-contents slots in
         rw (← seen) record {
           slots = at_slots;
           room = record {
-            room = rw held (fits all);
+            room = rw held found.1.enough;
             reason = tt;
-            past = λ past. absurd (found.0 (rw held at past));
-            no_less_room = found.1;
-            same_room = λ fits. found.2 (rw held at fits);
+            past = λ past. found.0 (rw held at past);
+            no_less_room = found.1.no_less;
+            same_room = λ fits. found.1.same (rw held at fits);
             same_builder = refl;
           };
           unchanged = tt;
         }
-
--- slots that fail in the second turn of a growth have no more room than the map
-pub slots_bound : {room told part new more asked wanted : ℕ} (held : ℕ) → (room < told → asked ≡ more) → (0 < asked → room < told) → told ≡ part → held ≤ told
-    → new ≡ max part (held + asked) → (held + more ≤ new → wanted ≡ more) → new < held + wanted → new ≤ room
-slots_bound held all none is fits first same refused = grind arith
 
 -- all that is left fits, and one of it came: it finds room, and the rest fits behind it
 module _ (held left next room : ℕ) (fit : held + left ≤ room) (nearer : next < left) where

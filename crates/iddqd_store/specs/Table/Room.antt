@@ -23,6 +23,15 @@ pub record GrowsFor {A E : Type 0} (old : Table) (more : ℕ) (result : Result A
   pub past : most_room < length old.pairs + more → IsErr result
   pub unchanged : OnErr result (new ≡ old)
 
+-- So many spare cells are what a table needs for `more` pairs more: none if they fit, and otherwise the fewest that hold
+-- them.
+-- Example: With 3 pairs in 8 cells it is 0 for 4 more, and 16 for 5 more.
+pub record IsSpareFor (table : Table) (more spare : ℕ) : Type 0 where
+  pub size : IsSize spare
+  pub none : length table.pairs + more ≤ table.limit → spare ≡ 0
+  pub some : table.limit < length table.pairs + more → 0 < spare
+  pub least : table.limit < length table.pairs + more → IsLeast (length table.pairs + more) (capacity_of spare)
+
 -- At most this many cells are probed to make a larger table: each old cell, and for each pair its old cell once more, the
 -- new one, and as many as there are pairs.
 -- Example: From 8 cells with 7 pairs it is 8 + 2 * 7 + 7 * 7 = 71.

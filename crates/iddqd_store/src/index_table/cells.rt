@@ -1,7 +1,7 @@
 //! The cells of a table. One function reads what a cell has, and counts that on the meter that it takes. `copy_cell`
 //! copies a cell, and `clone` all cells, without reading what they have. The script `metered_cells` lists each line that
 //! names the row.
-ghost use Rattle.std.specs.Prelude.{◌≡◌, ℕ, ◌+◌, ◌^◌, ◌<◌, List, [], Option, None, Some, length, slice_set, replicate, IfOk};
+ghost use Rattle.std.specs.Prelude.{◌≡◌, ℕ, ◌+◌, ◌^◌, ◌<◌, List, [], Option, None, Some, length, slice_set, replicate, IfOk, IsOk};
 ghost use Rattle.iddqd_store.specs.Table.Cell.{pair_of, hash_of, number_of};
 ghost use Rattle.iddqd_store.specs.Table.Ring.{cell};
 
@@ -61,6 +61,54 @@ impl Cell {
         } else {
             Some((self.hash, ItemIndex::new(self.number)))
         }
+    }
+}
+
+/// Memory for this many cells. None of it is written: a caller who is refused another part gives it back as it came.
+#[derive(Drop)]
+pub struct SpareCells {
+    row: Vec<Cell>,
+    count: usize,
+}
+
+impl Model for SpareCells {
+    ghost use Rattle.std.specs.Prelude.{◌≡◌, ◌≤◌, ℕ, [], vec_capacity};
+
+    ghost Value = { ℕ };
+
+    ghost view = { λ s. s.count };
+
+    ghost invariant = { λ s. (s.row.items ≡ []) × (s.count ≤ vec_capacity s.row) };
+}
+
+impl SpareCells {
+    /// Asks for memory for this many cells. It fails if there is none, or if its size does not fit in a `usize`. For 0
+    /// cells it asks for none.
+    pub(super) fn new(alloc: Global, count: usize) -> Result<SpareCells, TryReserveError>
+        ensures cells { IfOk result (λ s. s ≡ count) }
+        ensures never_refused { count ≡ 0 → IsOk result }
+    {
+        Ok(SpareCells {
+            row: Vec::with_capacity(alloc, count)?,
+            count,
+        })
+    }
+
+    /// Returns for how many cells there is memory.
+    pub fn len(&self) -> usize
+        ensures { result ≡ self.now }
+    {
+        self.count
+    }
+
+    /// Makes a row of as many empty cells, which writes the memory. It asks for none.
+    pub(super) fn into_cells(self) -> Cells
+        ensures { result ≡ replicate self None }
+    {
+        let SpareCells { mut row, count } = self;
+        // This never fails, since the row has the memory.
+        let _ = row.resize(count, Cell::empty());
+        Cells { row }
     }
 }
 

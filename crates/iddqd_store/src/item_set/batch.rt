@@ -6,6 +6,7 @@ ghost use Rattle.iddqd_store.specs.Slots.Found.{items_at};
 
 use super::{ItemIndex, ItemSet};
 use crate::error::TryReserveError;
+use crate::load::at_once;
 use std::alloc::Global;
 use std::marker::Model;
 
@@ -69,8 +70,8 @@ impl<T> Batch<T> {
 }
 
 impl<T: Drop> Batch<T> {
-    /// Reserves spare capacity for one more item. If there is none, it reserves it for as many as are `wanted`, and for
-    /// one if there is no memory for so many. It fails only if there is no spare capacity and the memory for one cannot be
+    /// Reserves spare capacity for one more item. If there is none, it reserves it for as many as are `wanted` (`at_once`),
+    /// and for one if there is no memory for so many. It fails only if there is no spare capacity and the memory for one cannot be
     /// allocated.
     #[inline(always)]
     pub fn reserve_for(&mut self, wanted: usize) -> Result<(), TryReserveError>
@@ -86,7 +87,7 @@ impl<T: Drop> Batch<T> {
         self.grow(wanted)
     }
 
-    // Allocates more capacity for the slots or for their items: for so many, or for one.
+    // Allocates more capacity for the slots or for their items: for as many as are wanted (`at_once`), or for one.
     #[cold]
     #[inline(never)]
     fn grow(&mut self, wanted: usize) -> Result<(), TryReserveError>
@@ -94,6 +95,7 @@ impl<T: Drop> Batch<T> {
         ensures slots { self.new.slots ≡ self.old.slots }
         ensures room { OnOk result (length self.new.slots < self.new.room) }
     {
+        let wanted = at_once(wanted, self.slots.len());
         // For one alone the same request would be made twice.
         if wanted > 1 && self.grow_by(wanted).is_ok() {
             return Ok(());

@@ -46,9 +46,8 @@ impl<T: Ranked, S: BuildHasher> TriHashMap<T, S> {
     /// together.
     ///
     /// The call fails if an allocation for more slots or for a larger table fails, or if the number of items would be
-    /// too large for memory. Then the items, the capacity and the builder are as before. Slots and tables may have more
-    /// room then, which serves a later call; a call that shrinks the map frees it. While a table grows, it has its old
-    /// cells beside the new ones.
+    /// too large for memory. Then the map is as before, and holds no more memory: all of it is asked for before any is
+    /// written. While a table grows, it has its old cells beside the new ones.
     pub fn reserve(&mut self, more: usize) -> Result<(), TryReserveError>
         ensures items { bag self.new ≡ bag self.old }
         ensures room { MakesRoom self.old more result self.new }

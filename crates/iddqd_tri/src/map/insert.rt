@@ -48,7 +48,7 @@ impl<T: Ranked, S: BuildHasher> TriHashMap<T, S> {
             T.TriHashItem T.K1.Hash T.K2.Hash T.K3.Hash S.BuildHasher S.Hasher.Hasher
             self.entry result (λ new. Gains self.old item new)) }
     {
-        match self.insert_or_refuse(item, &mut Costs::new()) {
+        match self.insert_or_refuse(item, 1, &mut Costs::new()) {
             Ok(()) => Ok(()),
             Err(Refusal::Duplicate(item, found)) => {
                 let slots = each_once(found.0.slot(), found.1.slot(), found.2.slot());
@@ -90,7 +90,7 @@ impl<T: Ranked, S: BuildHasher> TriHashMap<T, S> {
         ensures unchanged { OnErr result (self.new ≡ self.old) }
         ensures reason { IfErr result (λ e. TellsWhy T.TriHashItem T.K1.eq T.K2.eq T.K3.eq self.old item e) }
     {
-        match self.insert_or_refuse(item, &mut Costs::new()) {
+        match self.insert_or_refuse(item, 1, &mut Costs::new()) {
             Ok(()) => Ok(()),
             Err(Refusal::Duplicate(item, found)) => {
                 let taken1 = found.0.slot().is_some();

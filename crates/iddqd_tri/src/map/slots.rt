@@ -309,10 +309,17 @@ impl<T: TriHashItem, S: BuildHasher> TriHashMap<T, S> {
     }
 
     /// Inserts an item if none conflicts with it. The error has what the searches by its keys found; or, if the map is
-    /// full and cannot grow, it is `Memory`. The cells that growing probes are not counted. What it calls is inlined,
-    /// except for growing, so a caller's loop branches where the outcome arises.
+    /// full and cannot grow, it is `Memory`. A full map grows for as many items as are `wanted`, or for one if there is
+    /// no memory for so many. The cells that growing probes are not counted. What it calls is inlined, except for
+    /// growing, so a caller's loop branches where the outcome arises.
     #[inline(always)]
-    pub(crate) fn insert_or_refuse(&mut self, item: T, costs: &mut Costs) -> Result<(), Refusal<T>>
+    pub(crate) fn insert_or_refuse(
+        &mut self,
+        item: T,
+        wanted: usize,
+        costs: &mut Costs,
+    ) -> Result<(), Refusal<T>>
+        requires { 0 < wanted }
         ensures gains { OnOk result (Gains self.old item self.new) }
         ensures free { OnOk result (conflicts_of ⟦<T as Ranked>⟧.ranks (bag self.old) item ≡ []) }
         ensures handed_back { IfErr result (λ e. refusal_item e ≡ item) }
@@ -329,7 +336,7 @@ impl<T: TriHashItem, S: BuildHasher> TriHashMap<T, S> {
             Searched::Vacant(at) => at,
             Searched::Found(found) => return Err(Refusal::Duplicate(item, found)),
         };
-        if let Err(_) = self.make_room(1) {
+        if let Err(_) = self.make_room(wanted) {
             return Err(Refusal::Memory(item));
         }
         self.insert_into(item, at, &mut costs.probed);

@@ -7,7 +7,7 @@ ghost use Rattle.iddqd_store.specs.Table.Limit.{most_room};
 
 use crate::item::IdHashItem;
 use crate::map::IdHashMap;
-use iddqd_store::{AHEAD, Meter, TryReserveError, pairs_wanted, slots_wanted, wanted_above};
+use iddqd_store::{AHEAD, Meter, TryReserveError, at_once, pairs_wanted, slots_wanted};
 use std::hash::{BuildHasher, Hash};
 
 impl<T: IdHashItem, S: BuildHasher> IdHashMap<T, S> {
@@ -38,8 +38,8 @@ impl<T: IdHashItem, S: BuildHasher> IdHashMap<T, S> {
         self.items.len() == self.least_capacity()
     }
 
-    /// Reserves capacity for this many more items if the map is full, and for one if there is no memory for so many. If
-    /// that fails too, the map is as before.
+    /// Reserves capacity for as many more items as are `wanted` (`at_once`) if the map is full, and for one if there is
+    /// no memory for so many. If that fails too, the map is as before.
     #[inline(always)]
     pub(crate) fn make_room(&mut self, wanted: usize) -> Result<(), TryReserveError>
         requires { 0 < wanted }
@@ -52,20 +52,38 @@ impl<T: IdHashItem, S: BuildHasher> IdHashMap<T, S> {
         ensures unchanged { OnErr result (self.new ≡ self.old) }
     {
         if self.is_full() {
-            // For one alone the same request would be made twice.
-            if wanted > 1 && self.grow(wanted, AHEAD).is_ok() {
-                return Ok(());
-            }
-            self.grow(1, AHEAD)?;
+            return self.grow_for(wanted);
         }
         Ok(())
     }
 
+    /// Reserves capacity for as many more items as are `wanted` (`at_once`), and for one if there is no memory for so
+    /// many.
+    #[cold]
+    #[inline(never)]
+    fn grow_for(&mut self, wanted: usize) -> Result<(), TryReserveError>
+        requires { 0 < wanted }
+        ensures slots { self.new.slots ≡ self.old.slots }
+        ensures builder { self.new.builder ≡ self.old.builder }
+        ensures no_less_room { self.old.capacity ≤ self.new.capacity }
+        ensures room { OnOk result (length (bag self.old) < self.new.capacity) }
+        ensures unchanged { OnErr result (self.new ≡ self.old) }
+    {
+        let wanted = at_once(wanted, self.items.len());
+        // For one alone the same request would be made twice.
+        if wanted > 1 && self.grow(wanted, AHEAD).is_ok() {
+            return Ok(());
+        }
+        self.grow(1, AHEAD)
+    }
+
     /// Reserves capacity for this many more items. If the slots have to grow, the tables are made for these items, and
-    /// for twice the room of the slots, but ahead of the items for at most so many. If the call fails, the map is as
-    /// before, but slots and the table may have more room. It is not inlined into an insert, which seldom grows. Each
-    /// larger table replaces the old one at once. The parts that have more room than the map grow first, and what
-    /// bounds the capacity grows last: so if a step fails, that part is as before, and the capacity with it.
+    /// for twice the room of the slots, but ahead of the items for at most so many. It is not inlined into an insert,
+    /// which seldom grows.
+    ///
+    /// It asks for all memory before it writes any of it: for that of the larger tables, and last for that of the
+    /// slots, which grow in place. So if a step fails, slots and the table are as before, and the memory asked for goes
+    /// back unwritten. Then each larger table replaces the old one, which never fails.
     #[cold]
     #[inline(never)]
     pub(crate) fn grow(&mut self, more: usize, ahead: usize) -> Result<(), TryReserveError>
@@ -75,15 +93,12 @@ impl<T: IdHashItem, S: BuildHasher> IdHashMap<T, S> {
         let Some(wanted) = pairs_wanted(len, self.items.capacity(), more, ahead) else {
             return Err(TryReserveError);
         };
-        let mut meter = Meter::new();
-        // First the slots, if they have more room than the map. In the second turn they have nothing to do then.
-        let room = self.least_capacity();
-        let slots = wanted_above(room, self.items.capacity(), more);
-        self.items.try_reserve(slots)?;
-        self.first.try_reserve(wanted, &mut meter)?;
-        let cells = self.first.cells();
+        let first = self.first.spare_for(wanted)?;
+        let cells = self.first.cells_with(&first);
         self.items
             .try_reserve(slots_wanted(len, self.items.capacity(), more, cells))?;
+        let mut meter = Meter::new();
+        self.first.take_over(first, &mut meter);
         Ok(())
     }
 }

@@ -7,7 +7,7 @@ ghost use Rattle.iddqd_store.specs.Table.Limit.{most_room};
 
 use crate::item::TriHashItem;
 use crate::map::TriHashMap;
-use iddqd_store::{AHEAD, Meter, TryReserveError, pairs_wanted, slots_wanted, wanted_above};
+use iddqd_store::{AHEAD, Meter, TryReserveError, at_once, pairs_wanted, slots_wanted};
 use std::hash::{BuildHasher, Hash};
 
 impl<T: TriHashItem, S: BuildHasher> TriHashMap<T, S> {
@@ -42,8 +42,8 @@ impl<T: TriHashItem, S: BuildHasher> TriHashMap<T, S> {
         self.items.len() == self.least_capacity()
     }
 
-    /// Reserves capacity for this many more items if the map is full, and for one if there is no memory for so many. If
-    /// that fails too, the map is as before.
+    /// Reserves capacity for as many more items as are `wanted` (`at_once`) if the map is full, and for one if there is
+    /// no memory for so many. If that fails too, the map is as before.
     #[inline(always)]
     pub(crate) fn make_room(&mut self, wanted: usize) -> Result<(), TryReserveError>
         requires { 0 < wanted }
@@ -56,20 +56,38 @@ impl<T: TriHashItem, S: BuildHasher> TriHashMap<T, S> {
         ensures unchanged { OnErr result (self.new ≡ self.old) }
     {
         if self.is_full() {
-            // For one alone the same request would be made twice.
-            if wanted > 1 && self.grow(wanted, AHEAD).is_ok() {
-                return Ok(());
-            }
-            self.grow(1, AHEAD)?;
+            return self.grow_for(wanted);
         }
         Ok(())
     }
 
+    /// Reserves capacity for as many more items as are `wanted` (`at_once`), and for one if there is no memory for so
+    /// many.
+    #[cold]
+    #[inline(never)]
+    fn grow_for(&mut self, wanted: usize) -> Result<(), TryReserveError>
+        requires { 0 < wanted }
+        ensures slots { self.new.slots ≡ self.old.slots }
+        ensures builder { self.new.builder ≡ self.old.builder }
+        ensures no_less_room { self.old.capacity ≤ self.new.capacity }
+        ensures room { OnOk result (length (bag self.old) < self.new.capacity) }
+        ensures unchanged { OnErr result (self.new ≡ self.old) }
+    {
+        let wanted = at_once(wanted, self.items.len());
+        // For one alone the same request would be made twice.
+        if wanted > 1 && self.grow(wanted, AHEAD).is_ok() {
+            return Ok(());
+        }
+        self.grow(1, AHEAD)
+    }
+
     /// Reserves capacity for this many more items. If the slots have to grow, the tables are made for these items, and
-    /// for twice the room of the slots, but ahead of the items for at most so many. If the call fails, the map is as
-    /// before, but slots and tables may have more room. It is not inlined into an insert, which seldom grows. Each
-    /// larger table replaces the old one at once. The parts that have more room than the map grow first, and what
-    /// bounds the capacity grows last: so if a step fails, that part is as before, and the capacity with it.
+    /// for twice the room of the slots, but ahead of the items for at most so many. It is not inlined into an insert,
+    /// which seldom grows.
+    ///
+    /// It asks for all memory before it writes any of it: for that of the larger tables, and last for that of the
+    /// slots, which grow in place. So if a step fails, slots and tables are as before, and the memory asked for goes
+    /// back unwritten. Then each larger table replaces the old one, which never fails.
     #[cold]
     #[inline(never)]
     pub(crate) fn grow(&mut self, more: usize, ahead: usize) -> Result<(), TryReserveError>
@@ -79,25 +97,17 @@ impl<T: TriHashItem, S: BuildHasher> TriHashMap<T, S> {
         let Some(wanted) = pairs_wanted(len, self.items.capacity(), more, ahead) else {
             return Err(TryReserveError);
         };
-        let mut meter = Meter::new();
-        // First the parts that have more room than the map. In the second turn these have nothing to do.
-        let room = self.least_capacity();
-        let slots = wanted_above(room, self.items.capacity(), more);
-        self.items.try_reserve(slots)?;
-        let pairs2 = wanted_above(room, self.second.capacity(), wanted);
-        self.second.try_reserve(pairs2, &mut meter)?;
-        let pairs3 = wanted_above(room, self.third.capacity(), wanted);
-        self.third.try_reserve(pairs3, &mut meter)?;
-        self.first.try_reserve(wanted, &mut meter)?;
-        self.second.try_reserve(wanted, &mut meter)?;
-        self.third.try_reserve(wanted, &mut meter)?;
-        let cells = self
-            .first
-            .cells()
-            .min(self.second.cells())
-            .min(self.third.cells());
+        let first = self.first.spare_for(wanted)?;
+        let second = self.second.spare_for(wanted)?;
+        let third = self.third.spare_for(wanted)?;
+        let cells = self.first.cells_with(&first);
+        let cells = cells.min(self.second.cells_with(&second));
         self.items
             .try_reserve(slots_wanted(len, self.items.capacity(), more, cells))?;
+        let mut meter = Meter::new();
+        self.first.take_over(first, &mut meter);
+        self.second.take_over(second, &mut meter);
+        self.third.take_over(third, &mut meter);
         Ok(())
     }
 }

@@ -1,46 +1,36 @@
-use Rattle.std.proofs.Common.{arith, refl, rules, ◌∙◌}
+use Rattle.std.proofs.Common.{arith, refl, rules}
 use Rattle.std.proofs.lemmas.List.Sorted.{length_permutation, IsPermutation-trans}
-use Rattle.iddqd_store.proofs.MapLemmas.Growing.{refuses, grows, slots_bound}
+use Rattle.iddqd_store.proofs.MapLemmas.Growing.{refuses, grows, least_of, slots_grow, table_grows}
 use Rattle.iddqd_store.proofs.RankLemmas.Invariant.{IsIndexed-reorder}
 use Rattle.iddqd_bi.proofs.map.BiHashMap.grow.Goals as goal
 
 pub returns-in_default : goal.returns-in_default
 returns-in_default g c = rw (← c.self.view_is) (refuses _ refl refl refl c.self.invariant (λ all. (refl, grind arith)))
 
+pub returns-in_err-first : goal.returns-in_err-first
+returns-in_err-first g c = rw (← c.self.view_is) (refuses _ c.from_residual.ensures.0 refl refl c.self.invariant (λ all. (refl, grind arith)))
+
+pub returns-in_err-second : goal.returns-in_err-second
+returns-in_err-second g c = rw (← c.self.view_is) (refuses _ c.from_residual-in_err-second.ensures.0 refl refl c.self.invariant (λ all. (refl, grind arith)))
+
 pub returns-in_err-try_reserve : goal.returns-in_err-try_reserve
-returns-in_err-try_reserve g c = refuses _ c.from_residual.ensures.0 c.self.view_is c.try_reserve.ensures.slots c.self.invariant (λ all. grind arith)
-
-pub returns-in_err-try_reserve-2 : goal.returns-in_err-try_reserve-2
-returns-in_err-try_reserve-2 g c = refuses _ c.from_residual-in_err-try_reserve-2.ensures.0 c.self.view_is c.try_reserve.ensures.slots c.self.invariant (λ all. grind arith)
-
-pub invariant_of-self-in_err-try_reserve-3 : goal.invariant_of-self-in_err-try_reserve-3
-invariant_of-self-in_err-try_reserve-3 g c = rw c.try_reserve.ensures.slots (IsIndexed-reorder c.self.invariant (search rules))
-
-pub returns-in_err-try_reserve-3 : goal.returns-in_err-try_reserve-3
-returns-in_err-try_reserve-3 g c = refuses _ c.from_residual-in_err-try_reserve-3.ensures.0 c.self.view_is c.try_reserve.ensures.slots c.self.invariant (λ all. grind arith)
-
-pub invariant_of-self-in_err-try_reserve-4 : goal.invariant_of-self-in_err-try_reserve-4
-invariant_of-self-in_err-try_reserve-4 g c = rw c.try_reserve.ensures.slots (IsIndexed-reorder c.self.invariant (search (rules, IsPermutation-trans)))
-
-pub returns-in_err-try_reserve-4 : goal.returns-in_err-try_reserve-4
-returns-in_err-try_reserve-4 g c = refuses _ c.from_residual-in_err-try_reserve-4.ensures.0 c.self.view_is c.try_reserve.ensures.slots c.self.invariant (λ all. grind (arith, length_permutation))
-
-pub invariant_of-self-in_err-try_reserve-5 : goal.invariant_of-self-in_err-try_reserve-5
-invariant_of-self-in_err-try_reserve-5 g c = rw (c.try_reserve-5.ensures.slots, c.try_reserve.ensures.slots) (IsIndexed-reorder c.self.invariant (search (rules, IsPermutation-trans)))
-
-pub returns-in_err-try_reserve-5 : goal.returns-in_err-try_reserve-5
-returns-in_err-try_reserve-5 g c =
-    let slots = slots_bound _ c.wanted_above-slots.ensures.in_full c.wanted_above-slots.ensures.above c.capacity-2.ensures.value c.capacity-2.ensures.fits c.in_ok-try_reserve.ensures.room
-    (rw (c.len-len.ensures.value, c.capacity-4.ensures.value) at c.slots_wanted.ensures.as_asked) (rw c.try_reserve.ensures.slots at c.in_err-try_reserve-5.ensures.reason) in
-    refuses _ c.from_residual-in_err-try_reserve-5.ensures.0 c.self.view_is (c.try_reserve-5.ensures.slots ∙ c.try_reserve.ensures.slots) c.self.invariant
-    (λ all. rw c.in_err-try_reserve-5.ensures.unchanged (omega (arith, slots, rw (← c.self.view_is) at c.least_capacity-room.ensures.value), grind arith))
+returns-in_err-try_reserve g c = refuses _ c.from_residual-in_err-try_reserve.ensures.0 c.self.view_is c.in_err-try_reserve.ensures.slots c.self.invariant
+    (λ all. rw c.in_err-try_reserve.ensures.unchanged (refl, grind arith))
 
 pub invariant_of-self-2 : goal.invariant_of-self-2
-invariant_of-self-2 g c = rw (c.try_reserve-5.ensures.slots, c.try_reserve.ensures.slots) (IsIndexed-reorder c.self.invariant (search (rules, IsPermutation-trans)))
+invariant_of-self-2 g c = rw c.in_ok-try_reserve.ensures.slots (IsIndexed-reorder c.self.invariant (search rules))
 
 pub returns : goal.returns
 returns g c =
-    let second = length_permutation _ _ c.try_reserve-2.ensures.pairs in
-    let room = rw c.try_reserve.ensures.slots at c.in_ok-try_reserve-5.ensures.room in
-    grows c.self.view_is (c.try_reserve-5.ensures.slots ∙ c.try_reserve.ensures.slots) c.self.invariant (λ is. (λ h. grind (arith, length_permutation), omega arith, grind (arith, length_permutation)))
-    (λ all. omega (arith, all, c.in-Some.ensures.enough, second, room, c.in_ok-try_reserve-3.ensures.room.room, c.in_ok-try_reserve-4.ensures.room.room))
+    let wanted = c.in-Some.ensures in
+    let slots = c.slots_wanted.ensures in
+    let len = c.len-len.ensures.value in
+    let room = c.capacity.ensures.value in
+    grows c.self.view_is c.in_ok-try_reserve.ensures.slots c.self.invariant (λ all. (
+      λ past. c.in_ok-first.ensures.past (omega (arith, past, wanted.enough, all.0)),
+      least_of (slots_grow _ slots.enough (λ fit. slots.as_asked (omega (arith, fit, len, c.capacity-2.ensures.value))) c.in_ok-try_reserve.ensures.room (λ fits. omega (arith, fits)))
+          (least_of (table_grows _ all.0 wanted.enough c.in_ok-first.ensures.spare c.take_over.ensures.stays c.take_over.ensures.limit
+          (λ fits. wanted.as_asked (omega (arith, fits, len, room))) (λ fits. omega (arith, fits)))
+          (table_grows _ all.1.0 wanted.enough c.in_ok-second.ensures.spare c.take_over-2.ensures.stays c.take_over-2.ensures.limit
+          (λ fits. wanted.as_asked (omega (arith, fits, len, room))) (λ fits. omega (arith, fits)))),
+    ))

@@ -24,6 +24,7 @@ returns-in-Ok-clause-gains g c =
       more = more;
       no_less_room = omega (arith, c.insert_into.ensures.capacity, c.make_room.ensures.no_less_room);
       same_room = λ room. c.insert_into.ensures.capacity ∙ ap (λ (m : OrdMap g.row.T.Denot). m.capacity) (c.make_room.ensures.same_room room);
+      most = omega (arith, c.insert_into.ensures.capacity, c.make_room.ensures.most);
       fits = omega (arith, more, c.in-Ok.ensures.room, c.insert_into.ensures.capacity);
     }
 

@@ -21,6 +21,7 @@ returns-in-Ok-clause-overwrites g c =
       fits = omega (arith, as_many, c.place_for.ensures.fits, c.replace_in.ensures.capacity);
       no_less_room = omega (arith, c.replace_in.ensures.capacity);
       same_room = λ room. c.replace_in.ensures.capacity;
+      most = omega (arith, c.replace_in.ensures.capacity);
       no_growth = λ any. c.replace_in.ensures.capacity;
     }
 
@@ -37,6 +38,7 @@ returns-in-Ok-insert_or_refuse-clause-overwrites g c =
       fits = done.gains.fits;
       no_less_room = done.gains.no_less_room;
       same_room = done.gains.same_room;
+      most = done.gains.most;
       no_growth = λ any. absurd (false≢true (sym done.free ∙ any));
     }
 

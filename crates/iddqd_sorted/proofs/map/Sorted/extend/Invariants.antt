@@ -4,7 +4,7 @@ use Rattle.std.specs.Iterator.{size}
 use Rattle.iddqd_store.specs.Bag.Building.{FitsOn}
 use Rattle.iddqd_sorted.specs.Items.{items, by_sort}
 use Rattle.iddqd_sorted.specs.Overwriting.{overwritten}
-use Rattle.iddqd_sorted.proofs.Extending.{HasRoomOn}
+use Rattle.iddqd_sorted.proofs.Extending.{HasRoomOn, IsWithin}
 use Rattle.iddqd_sorted.proofs.map.Sorted.extend.Given as goal
 
 -- the items that came so far were inserted
@@ -16,4 +16,5 @@ invariant-loop-item g l = record {
   fits : length (items l.self) ≤ l.self.capacity;
   room : HasRoomOn (FitsOn g.I.IntoIterator.into_iter_gives g.I.IntoIter.Iterator.remaining l.fn.iter (length (items l.fn.self)) l.fn.self.capacity)
       (size (g.I.IntoIter.Iterator.remaining l.item-iterator)) l.fn.self l.self;
+  within : IsWithin l.fn.self l.self l.yielded;
 }

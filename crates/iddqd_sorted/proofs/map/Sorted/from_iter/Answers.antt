@@ -1,4 +1,4 @@
-use Rattle.std.proofs.Common.{◌≡◌, List, [], subst, ap, ◌∙◌, rules}
+use Rattle.std.proofs.Common.{◌≡◌, List, [], length, subst, ap, ◌∙◌, arith, rules}
 use Rattle.std.specs.Prelude.{fold}
 use Rattle.iddqd_store.specs.Bag.{conflicts_of}
 use Rattle.iddqd_store.proofs.BagLemmas.Building.{GivesThen-weaker}
@@ -16,5 +16,18 @@ returns-in_err-extend-clause-refused g c =
     at_err c.from_residual.result c.in_err-extend.field-0.0 _ (search rules)
     (GivesThen-weaker g.I.IntoIterator.into_iter_gives g.I.IntoIter.Iterator.next_gives c.args.iter x _ _
     (λ xs made. subst (λ (l : List g.row.M-Item.Denot). conflicts_of ranks l x ≡ [])
-    (made ∙ ap (λ (l : List g.row.M-Item.Denot). fold (overwritten ranks by) l xs) c.default-map.ensures.empty) failed.full.free)
+    (made.lists ∙ ap (λ (l : List g.row.M-Item.Denot). fold (overwritten ranks by) l xs) c.default-map.ensures.empty) failed.full.free)
     failed.refused)
+
+pub returns-clause-all : goal.returns-clause-all
+returns-clause-all g c =
+    let made = c.in_ok-extend.ensures.all in
+    (made.0, made.1, made.2, made.3, rw c.default-map.ensures.empty at made.4.lists)
+
+pub returns-clause-fits : goal.returns-clause-fits
+returns-clause-fits g c = c.in_ok-extend.ensures.all.4.fits
+
+pub returns-clause-most : goal.returns-clause-most
+returns-clause-most g c =
+    let made = c.in_ok-extend.ensures.all in
+    (made.0, made.1, made.2, made.3, omega (arith, made.4.most, ap length c.default-map.ensures.empty, c.default-map.ensures.capacity))

@@ -1,5 +1,6 @@
-use Rattle.std.proofs.Common.{◌∙◌, ap, arith}
+use Rattle.std.proofs.Common.{◌∙◌, ap, arith, length}
 use Rattle.std.specs.Prelude.{slice_index_or}
+use Rattle.std.proofs.lemmas.List.Edits.{length-insert}
 use Rattle.std.specs.Ordering.{is_eq}
 use Rattle.iddqd_store.specs.Bag.{do_conflict}
 use Rattle.iddqd_order.specs.Row.{position}
@@ -28,6 +29,8 @@ returns-clause-gains g c =
     let inserted = rw (c.make_room.ensures.slots, c.make_room.ensures.blocks) at c.insert_into.ensures.inserted in
     record {
       lists = inserted ∙ inserted-split (λ y. by_sort g.M.Item.Sortable.sort_key g.M.Item.SortKey.Ord.cmp g.M.SlotMap.first_key g.M.FirstKey.Ord.cmp y c.args.item) (items m) _ c.in-Err.ensures.gap c.args.item;
+      more = omega (arith, ap length inserted, length-insert (items m) (position m.blocks c.in-Err.place) c.args.item (omega (arith, c.in-Err.ensures.gap.in_range)));
+      most = omega (arith, c.insert_into.ensures.kept.0, c.make_room.ensures.most);
       no_less_room = omega (arith, c.insert_into.ensures.kept.0, c.make_room.ensures.no_less_room);
       same_room = λ room. c.insert_into.ensures.kept.0 ∙ ap (λ (n : SortedValue g.row.M-Item.Denot g.row.M-Item-SortKey.Denot g.row.M-Builder.Denot). n.capacity) (c.make_room.ensures.same_room room);
       fits = c.insert_into.ensures.fits;

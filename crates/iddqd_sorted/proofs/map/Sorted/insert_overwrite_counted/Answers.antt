@@ -33,6 +33,7 @@ returns-in-Err-clause-overwrites g c =
       fits = omega (arith, put.fits, length_permutation _ _ put.listed);
       no_less_room = omega (arith, put.capacity);
       same_room = λ _. put.capacity;
+      most = omega (arith, put.capacity);
       no_growth = λ _. put.capacity;
       same_builder = put.builder;
     }
@@ -67,6 +68,7 @@ returns-clause-overwrites g c = elim c.match-insert_free.branch [
         fits = gains.fits;
         no_less_room = gains.no_less_room;
         same_room = gains.same_room;
+        most = gains.most;
         no_growth = λ some. absurd (some free);
         same_builder = gains.same_builder;
       }

@@ -1,4 +1,5 @@
-use Rattle.std.proofs.Common.{◌≡◌, ◌∙◌, true, false, sym, ap, length, rules, arith}
+use Rattle.std.proofs.Common.{◌≡◌, ◌∙◌, true, false, sym, ap, length, rules, arith, None, set}
+use Rattle.std.specs.List.{remove}
 use Rattle.std.specs.Ordering.{is_eq}
 use Rattle.std.proofs.lemmas.Bool.{false≢true}
 use Rattle.std.proofs.lemmas.List.Sorted.{length_permutation}
@@ -8,9 +9,11 @@ use Rattle.iddqd_store.proofs.RankLemmas.Costs.{SearchCosts-room}
 use Rattle.iddqd_store.proofs.SlotLemmas.Contents.{contents-take}
 use Rattle.iddqd_sorted.specs.Items.{by_sort, with_item}
 use Rattle.iddqd_sorted.proofs.Exchanged.{others_left, others_items, free_taken}
-use Rattle.iddqd_sorted.proofs.Kept.{alike_keys, one_level, place, place_within, place_slot, items_kept, settles_kept}
+use Rattle.iddqd_sorted.proofs.Kept.{alike_keys, one_level, place, place_within, place_slot, others_kept, items_kept, settles_kept}
 use Rattle.iddqd_sorted.proofs.Keyed.{only_none, only_some, others_some, blocked, blocked_found, rekeying}
-use Rattle.iddqd_sorted.proofs.Listed.{long}
+use Rattle.iddqd_store.specs.Bag.{do_conflict}
+use Rattle.iddqd_sorted.proofs.Finding.{none-permutation}
+use Rattle.iddqd_sorted.proofs.Listed.{long, IsPermutation-listed}
 use Rattle.iddqd_sorted.proofs.Sorting.{total}
 use Rattle.iddqd_sorted.proofs.map.Sorted.rekey_by.Goals.{in-Ok-rekey_at, in-Err-rekey_at}
 use Rattle.iddqd_sorted.proofs.map.Sorted.rekey_by.Goals as goal
@@ -84,6 +87,22 @@ returns-in-Ok-clause-costs g c = rw (← c.self.view_is) (rekeying _ (omega arit
 
 pub returns-in-Err-clause-costs : goal.returns-in-Err-clause-costs
 returns-in-Err-clause-costs g c = rw (← c.self.view_is) (rekeying _ (omega arith) c.in-Some.ensures.costs c.rekey_at.ensures.costs)
+
+pub returns-in-Ok-clause-free : goal.returns-in-Ok-clause-free
+returns-in-Ok-clause-free g c =
+    let all = total g.M.Item.Sortable.sort_key g.met.M.Item.SortKey.Ord.total g.M.SlotMap.first_key g.met.M.FirstKey.Ord.total in
+    let slots = (g.M.SlotMap.shown c.self.inside.map).slots in
+    let es = line c.self.inside.order.blocks in
+    let new = (g.M.SlotMap.shown c.rekey_at.new.self).slots in
+    let at = c.place_of_slot-place.ensures in
+    let p = position c.self.inside.order.blocks c.place_of_slot-place.result in
+    let put = c.in-Ok.ensures in
+    let many : length (contents new) ≡ length (contents slots) = omega (arith, length_permutation _ _ put.puts_at.items, length_permutation _ _ (contents-take slots _ c.in-Ok.gone put.value)) in
+    let left = others_items all g.M.Item.Sortable.sort_key slots es c.self.invariant _ c.in-Ok.gone p at.within at.slot new c.args.item put.updates many in
+    let listed = others_left all g.M.Item.Sortable.sort_key slots es c.self.invariant _ c.in-Ok.gone p at.within at.slot new c.args.item put.updates many in
+    let others = others_some all g.M.Item.Sortable.sort_key slots es c.self.invariant _ _ c.in-Some.ensures.found c.in-Ok.gone put.value p at.within at.slot in
+    let same = IsPermutation-listed all g.M.Item.Sortable.sort_key _ (remove es p) listed in
+    rw (← c.self.view_is) (none-permutation (do_conflict g.M.SlotMap.ranks c.args.item) _ _ (rw (left ∙ others) at same) (free_taken g.M.SlotMap.ranks g.met.M.SlotMap.lawful new _ c.args.item put.updates.changed put.puts_at.sound))
 
 -- an item that moves is not level with the old one
 pub returns-in-Ok-clause-asked_once : goal.returns-in-Ok-clause-asked_once
@@ -162,4 +181,33 @@ returns-clause-costs g c =
     elim c.match-rekey_at-2.branch [
       | in-Ok-rekey_at w ↦ rw (w.result-is, ← c.self.view_is) (rekeying _ (omega arith) c.in-Some.ensures.costs c.rekey_at-2.ensures.costs)
       | in-Err-rekey_at w ↦ rw (w.result-is, ← c.self.view_is) (rekeying _ (omega arith) c.in-Some.ensures.costs c.rekey_at-2.ensures.costs)
+    ]
+
+pub returns-clause-free : goal.returns-clause-free
+returns-clause-free g c =
+    let sort = g.M.Item.Sortable.sort_key in
+    let key = g.M.SlotMap.first_key in
+    let cmp_key = g.M.FirstKey.Ord.cmp in
+    let by = by_sort sort g.M.Item.SortKey.Ord.cmp key cmp_key in
+    let all = total sort g.met.M.Item.SortKey.Ord.total key g.met.M.FirstKey.Ord.total in
+    let slots = (g.M.SlotMap.shown c.self.inside.map).slots in
+    let es = line c.self.inside.order.blocks in
+    let new = (g.M.SlotMap.shown c.rekey_at-2.new.self).slots in
+    let stays : c.is_level.result ≡ true = search rules in
+    elim c.match-rekey_at-2.branch [
+      | in-Ok-rekey_at w ↦
+          let put = w.in-Ok-rekey_at.ensures in
+          let gone = w.in-Ok-rekey_at.gone in
+          let level : is_eq (by gone c.args.item) ≡ true = sym (c.is_level.ensures.value gone (rw (← c.self.view_is) put.value)) ∙ stays in
+          let one = one_level by gone c.args.item level in
+          let alike = alike_keys sort g.met.M.Item.SortKey.Ord.total key cmp_key gone c.args.item level in
+          let many : length (contents new) ≡ length (contents slots) = omega (arith, length_permutation _ _ put.puts_at.items, length_permutation _ _ (contents-take slots _ gone put.value)) in
+          let p = place all sort slots es c.self.invariant _ gone put.value in
+          let left = items_kept all sort slots es c.self.invariant _ gone put.value new c.args.item put.updates many one alike in
+          let listed = others_kept all sort slots es c.self.invariant _ gone put.value new c.args.item put.updates many one alike in
+          let others = others_some all sort slots es c.self.invariant _ _ c.in-Some.ensures.found gone put.value p
+          (place_within all sort slots es c.self.invariant _ gone put.value) (place_slot all sort slots es c.self.invariant _ gone put.value) in
+          let same = IsPermutation-listed all sort _ (remove es p) listed in
+          rw (w.result-is, ← c.self.view_is) (none-permutation (do_conflict g.M.SlotMap.ranks c.args.item) _ _ (rw (left ∙ others) at same) (free_taken g.M.SlotMap.ranks g.met.M.SlotMap.lawful new _ c.args.item put.updates.changed put.puts_at.sound))
+      | in-Err-rekey_at w ↦ rw w.result-is tt
     ]

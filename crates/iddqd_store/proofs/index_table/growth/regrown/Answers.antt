@@ -13,11 +13,11 @@ use Rattle.iddqd_store.proofs.index_table.growth.regrown.Goals as goal
 
 pub loop-from-init : goal.loop-from-init
 loop-from-init c =
-    let pairs : contents (replicate {A = Option (ℕ × ℕ)} c.args.count None) ≡ [] = held_items-empty c.args.count in
-    rw c.in_ok-grown.ensures (record {
-      front = front_none c.args.cells.now c.args.count c.requires.size;
+    let pairs : contents (replicate {A = Option (ℕ × ℕ)} c.args.spare None) ≡ [] = held_items-empty c.args.spare in
+    rw c.into_cells-grown.ensures (record {
+      front = front_none c.args.cells.now c.args.spare c.requires.size;
       within = omega arith;
-      size = length-replicate c.args.count None;
+      size = length-replicate c.args.spare None ∙ sym c.len-count.ensures;
       room = search rules;
       probed = rw pairs (omega arith);
     })
@@ -43,9 +43,9 @@ loop-k-preserved c =
     let chunk = c.loop-i.invariant in
     let is = sym c.cell_at-in-loop-k.ensures.value ∙ c.in-Some.is in
     let copied = chunk_copied _ _ (omega (arith, chunk.room, chunk.chunk.some)) chunk.chunk c.loop-k-test.true is c.requires.fits c.requires.counted
-    i.size (rw i.size c.home_of.ensures) c.first_empty_from-at.ensures.first_empty i.front i.probed c.cell_at-in-loop-k.ensures.probe
+    (i.size ∙ c.len-count.ensures) (rw i.size c.home_of.ensures) c.first_empty_from-at.ensures.first_empty i.front i.probed c.cell_at-in-loop-k.ensures.probe
     c.first_empty_from-at.ensures.probes in
-    rw c.copy_cell.ensures (record { front = copied.0; size = copied.1; probed = copied.2 })
+    rw c.copy_cell.ensures (record { front = copied.0; size = copied.1 ∙ sym c.len-count.ensures; probed = copied.2 })
 
 pub invariant_of-result : goal.invariant_of-result
 invariant_of-result c =
@@ -56,4 +56,4 @@ invariant_of-result c =
 pub returns-clause-probes : goal.returns-clause-probes
 returns-clause-probes c =
     let i = c.loop-from.invariant in
-    record { done = copied_probes _ (omega (arith, c.loop-from-test.false, c.len.ensures)) i.within i.front c.requires.counted i.probed; refused = tt }
+    copied_probes _ (omega (arith, c.loop-from-test.false, c.len.ensures)) i.within i.front c.requires.counted i.probed

@@ -11,11 +11,11 @@ pub loop-item-preserved : goal.loop-item-preserved
 loop-item-preserved g c =
     let so_far = c.loop-item.invariant in
     let next = on c.in-Some.item c.in-Some.is c.next.ensures.goes so_far.ending in
-    let put = c.in_ok-insert_overwrite.ensures.overwrites in
+    let put = c.in_ok-insert_overwrite_counted.ensures.overwrites in
     record {
       callable = next.0;
       ending = next.1;
-      extends = ExtendsTo-push g.T.Ranked.ranks (state_of c.args.self.now) (state_of c.loop-item.self) (state_of c.insert_overwrite.new.self)
+      extends = ExtendsTo-push g.T.Ranked.ranks (state_of c.args.self.now) (state_of c.loop-item.self) (state_of c.insert_overwrite_counted.new.self)
           c.loop-item.yielded c.in-Some.item so_far.extends put.items put.fits put.no_less_room;
       room = HasRoomOn-overwrites so_far.room _ next.2 put;
     }
@@ -30,11 +30,11 @@ loop-item-init g c = record {
 }
 
 -- an insert that failed left the map as it was
-pub returns-in_err-insert_overwrite : goal.returns-in_err-insert_overwrite
-returns-in_err-insert_overwrite g c =
+pub returns-in_err-insert_overwrite_counted : goal.returns-in_err-insert_overwrite_counted
+returns-in_err-insert_overwrite_counted g c =
     let so_far = c.loop-item.invariant in
-    let failed = c.in_err-insert_overwrite.ensures in
-    let error = c.in_err-insert_overwrite.field-0.0 in
+    let failed = c.in_err-insert_overwrite_counted.ensures in
+    let error = c.in_err-insert_overwrite_counted.field-0.0 in
     let nearer = (on c.in-Some.item c.in-Some.is c.next.ensures.goes so_far.ending).2 in
     record {
       all = search rules;
