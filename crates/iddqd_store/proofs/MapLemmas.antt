@@ -78,5 +78,6 @@ module _ {T S : Type 0} where
     past = λ _. refl;
     no_less_room = let room = ap (λ (m : Map T S). m.capacity) same in omega (arith, room);
     same_room = λ _. ap (λ (m : Map T S). m.capacity) same;
+    most = let room = ap (λ (m : Map T S). m.capacity) same in omega (arith, room);
     same_builder = ap (λ (m : Map T S). m.builder) same;
   }

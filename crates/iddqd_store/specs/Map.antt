@@ -3,7 +3,7 @@ pub mod Extracting
 pub mod State
 pub mod Walk
 pub mod Written
-use Rattle.std.specs.Prelude.{◌≡◌, ◌≢◌, ◌+◌, ◌≤◌, ◌<◌, ℕ, List, [], ◌∷◌, ◌++◌, Option, Some}
+use Rattle.std.specs.Prelude.{◌≡◌, ◌≢◌, ◌+◌, ◌*◌, ◌≤◌, ◌<◌, ℕ, List, [], ◌∷◌, ◌++◌, Option, Some}
 use Rattle.std.specs.Prelude.{Result, IsErr, OnOk, OnErr, length, max, min, fold, refl, IsPermutation}
 use Rattle.std.specs.Coded.{Coded, code_by, coded×, coded_ℕ, coded_list, coded_option}
 use Rattle.std.specs.Hash.{HashWrites}
@@ -87,7 +87,8 @@ pub record GrowsUnless {T S : Type 0} (fits : Type 0) (old new : Map T S) : Type
   pub same_builder : new.builder ≡ old.builder
 
 -- After `Ok`, `more` items fit beside those that are there. The call fails only if they did not fit before it, and
--- it always fails if no map can hold them. The capacity grows only if they did not fit, and the builder stays.
+-- it always fails if no map can hold them. The capacity grows only if they did not fit, and then to no more than twice as many
+-- items as there would be, or 7. The builder stays.
 -- Example: With 3 items and the capacity 7, 4 more fit and nothing changes, and for 5 more the capacity has to be 8 at
 -- least.
 pub record MakesRoom {T S A E : Type 0} (old : Map T S) (more : ℕ) (result : Result A E) (new : Map T S) : Type 0 where
@@ -96,6 +97,7 @@ pub record MakesRoom {T S A E : Type 0} (old : Map T S) (more : ℕ) (result : R
   pub past : most_room < length (bag old) + more → IsErr result
   pub no_less_room : old.capacity ≤ new.capacity
   pub same_room : length (bag old) + more ≤ old.capacity → new.capacity ≡ old.capacity
+  pub most : new.capacity ≤ max old.capacity (max (2 * (length (bag old) + more)) 7)
   pub same_builder : new.builder ≡ old.builder
 
 -- The map makes room for `more` items, and no slot changes. After an error it is as it was. No clause of a map cites it.

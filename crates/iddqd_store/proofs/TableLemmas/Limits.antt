@@ -1,6 +1,6 @@
 -- Limits, and a row of empty cells.
 use Rattle.std.proofs.Common.{◌≡◌, ℕ, suc, zero, ◌+◌, ◌-◌, ◌%◌, ◌*◌, ◌/◌, ◌^◌, ◌<◌, ◌≤◌, [], Option, None, Some, length, replicate, refl, sym, ap, ◌∙◌, subst, inr, ⊎_elim, arith, rules}
-use Rattle.std.specs.Prelude.{◌≢◌, ◌↔◌, IsSome, nat_lt, if◌then◌else◌}
+use Rattle.std.specs.Prelude.{◌≢◌, ◌↔◌, max, IsSome, nat_lt, if◌then◌else◌}
 use Rattle.std.specs.Int.Bits.{bit_and}
 use Rattle.std.proofs.lemmas.Bool.Decides.{nat_tests}
 use Rattle.std.proofs.Math.Nat.{add-mul-mod_self_left, mod-eq_of_lt, mod_self, mul-suc}
@@ -30,6 +30,20 @@ least_found m k n pos e enough before =
           (λ (s : p.0 ≤ k). let same : p.0 ≡ k = omega arith in let b : 2 ^ p.0 ≡ 2 ^ k = ap (λ (i : ℕ). 2 ^ i) same in omega (arith, b, p.1))))
           is;
     }
+
+-- the least limit for so many pairs is below twice as many, or the lowest one
+pub least_most : (m l : ℕ) → IsLeast m l → l ≤ max (2 * m) 7
+least_most m l least = ⊎_elim (λ (none : l ≡ 0). omega (arith, none)) (λ (p : (k : ℕ) × (l ≡ 7 * 2 ^ k)). of_power p.0 p.1) least.limit
+  where
+    of_power : (k : ℕ) → l ≡ 7 * 2 ^ k → l ≤ max (2 * m) 7
+    of_power k is =
+        by_order k 1
+        (λ (lowest : k < 1). let zero : k ≡ 0 = omega (arith, lowest) in let e : 2 ^ k ≡ 2 ^ 0 = ap (λ (i : ℕ). 2 ^ i) zero in omega (arith, is, e))
+        (λ (higher : 1 ≤ k).
+        let same : k ≡ (k - 1) + 1 = omega (arith, higher) in
+        let e : 2 ^ k ≡ 2 * 2 ^ (k - 1) = ap (λ (i : ℕ). 2 ^ i) same ∙ doubled (k - 1) in
+        by_order (7 * 2 ^ (k - 1)) m (λ (less : 7 * 2 ^ (k - 1) < m). omega (arith, is, e, less))
+        (λ (holds : m ≤ 7 * 2 ^ (k - 1)). let le = least.least (7 * 2 ^ (k - 1)) (inr (k - 1, refl)) holds in omega (arith, is, e, le, pow_pos (k - 1))))
 
 pub held_items-empty : {X : Type 0} (n : ℕ) → contents {T = X} (replicate n None) ≡ []
 held_items-empty zero = refl

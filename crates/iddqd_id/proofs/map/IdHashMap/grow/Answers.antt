@@ -1,7 +1,7 @@
 -- Written by hand; tests/one_key.patch says why.
 use Rattle.std.proofs.Common.{arith, refl, rules}
 use Rattle.std.proofs.lemmas.List.Sorted.{length_permutation, IsPermutation-trans}
-use Rattle.iddqd_store.proofs.MapLemmas.Growing.{refuses, grows, least_of, slots_grow, table_grows}
+use Rattle.iddqd_store.proofs.MapLemmas.Growing.{refuses, grows, least_of, slots_grow, slots_most, table_grows}
 use Rattle.iddqd_store.proofs.RankLemmas.Invariant.{IsIndexed-reorder}
 use Rattle.iddqd_id.proofs.map.IdHashMap.grow.Goals as goal
 
@@ -24,9 +24,12 @@ returns g c =
     let slots = c.slots_wanted.ensures in
     let len = c.len-len.ensures.value in
     let room = c.capacity.ensures.value in
-    grows c.self.view_is c.in_ok-try_reserve.ensures.slots c.self.invariant (λ all. (
+    let same = c.capacity-2.ensures.value in
+    let grown = c.in_ok-try_reserve.ensures.room in
+    grows c.self.inside.items.capacity c.self.view_is c.in_ok-try_reserve.ensures.slots c.self.invariant (λ all. (
       λ past. c.in_ok-first.ensures.past (omega (arith, past, wanted.enough, all.0)),
-      least_of (slots_grow _ slots.enough (λ fit. slots.as_asked (omega (arith, fit, len, c.capacity-2.ensures.value))) c.in_ok-try_reserve.ensures.room (λ fits. omega (arith, fits)))
+      least_of (slots_grow _ slots.enough (λ fit. slots.as_asked (omega (arith, fit, len, same))) (λ far. omega (arith, slots.most far, len, same)) grown (λ fits. omega (arith, fits)))
           (table_grows _ all.0 wanted.enough c.in_ok-first.ensures.spare c.take_over.ensures.stays c.take_over.ensures.limit
-          (λ fits. wanted.as_asked (omega (arith, fits, len, room))) (λ fits. omega (arith, fits))),
+          (λ exact. wanted.as_asked (omega (arith, exact, len, room))) (λ fits. omega (arith, fits)) (λ fits. omega (arith, fits))),
+      λ small. omega (arith, slots_most _ slots.enough (λ far. omega (arith, slots.most far, len, same)) grown small),
     ))
