@@ -30,6 +30,8 @@ RENAMED = [
     (r"(?<!-> )(?<![\w>])\(([\w:]+(?:\(\))?), \1\)", r"\1"), (r"\((\w+) × \1\)", r"\1"), (r"\b(\w+) × \1\b", r"\1"), (r"\b(ℕ|nat_eq) \1\b", r"\1"),
     (r"\bNone ∷ None(?= ∷)", "None"), (r"\b_ ∷ _ ∷ \[\]", "_ ∷ []"),
     (r"(?<=, )(None|&nothing),\s+\1(?=,?\s*(?:\)|(?:&mut Meter|meter)\b))", r"\1"),
+    # The hash of each key.
+    (r"-> \(u64, u64\)", "-> u64"),
     # The key that is inside of another one.
     (r"\bBy(?:Made|Pair)<(\w+)(?:, \w+)*, 2>", r"\1"),
     # The walks through each other table, and the least of all.

@@ -28,6 +28,8 @@ RENAMED = [
     (r"\bNone ∷ None(?= ∷)", "None ∷ None ∷ None"), (r"\b_ ∷ _ ∷ \[\]", "_ ∷ _ ∷ _ ∷ []"),
     # The key that is inside of another one.
     (r"\bBy(Made|Pair)<(\w+)((?:, \w+)*), 2>", r"By\1<By\1<\2\3, 3>\3, 2>"),
+    # The hash of each key.
+    (r"-> \(u64, u64\)", "-> (u64, u64, u64)"),
     # The walks through each other table, and the least of all.
     (r"\(1 ∷ \[\]\)", "(1 ∷ 1 ∷ [])"), (r"\bmin ([\w.]*)first([\w.]*) \1second\2", r"min \1first\2 (min \1second\2 \1third\2)"),
     (r"(?<=, )(None|&nothing),\s+\1(?=,?\s*(?:\)|(?:&mut Meter|meter)\b))", r"\1, \1, \1"),

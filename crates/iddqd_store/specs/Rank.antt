@@ -72,15 +72,6 @@ module _ {T : Type 0} where
   abbrev pub IsHashed : (T → ℕ) → List (Option T) → FoundByHash → Type 0
   IsHashed hash slots found = IfSome found.slot (λ slot. HasHash hash slots slot found.hash)
 
--- The pair of the item in this slot is in the table, and the item has the hash of the search if the search found the
--- slot. No public clause of a map cites it.
--- Example: With the pairs (5, 0), (6, 2) it holds for an item with the hash 6 in the slot 2, and a search for 6 that
--- found 2.
-pub record IsPaired {T : Type 0} (hash : T → ℕ) (pairs : List (ℕ × ℕ)) (found : FoundByHash)
-    (slot : ℕ) (x : T) : Type 0 where
-  pub pair : Contains pairs (hash x, slot)
-  pub known : found.slot ≡ Some slot → hash x ≡ found.hash
-
 -- `walks_within` is a bound for the cells that some walks through the tables of a map of `n` items probe, where
 -- `walks` says how many walks there are at each rank. A walk goes from the home bucket of a hash on, up to the first
 -- empty cell at most, so it probes at most one cell more than there are pairs.
@@ -104,26 +95,26 @@ pub record KeyRemovalCosts {T A : Type 0} (hash_of : T → ℕ) (bag : List T) (
 abbrev pub has_found : FoundByHash → ℕ → Bool
 has_found found slot = option_map_or (λ s. s == slot) found.slot false
 
-module _ {T : Type 0} where
-  -- `rehash_walks` counts the walks that put a pair with the hash of a search in the place of the pair of the item
-  -- `gone`: none if both hashes are equal, otherwise one that removes a pair and one that inserts it.
-  -- Example: For an item with the hash 5 and a search for 6 it is 2.
-  abbrev pub rehash_walks : (T → ℕ) → FoundByHash → T → ℕ
-  rehash_walks hash found gone = if hash gone == found.hash then 0 else 2
+-- `rehash_walks` counts the walks that put a pair with the hash `after` in the place of one with the hash `before`: none
+-- if both hashes are equal, otherwise one that removes a pair and one that inserts it.
+-- Example: For 5 and 6 it is 2.
+abbrev pub rehash_walks : ℕ → ℕ → ℕ
+rehash_walks before after = if before == after then 0 else 2
 
-  -- `merge_two_walks` counts the walks that put one pair in the place of two, of which the second is that of this slot.
-  -- If the search found that slot, one walk removes the first pair, and one ends at the second, which gets another
-  -- number. Otherwise one walk removes the second pair, and then the first is replaced (`rehash_walks`).
-  -- Example: If the search found the second item, it is 2.
-  abbrev pub merge_two_walks : (T → ℕ) → FoundByHash → ℕ → T → ℕ
-  merge_two_walks hash found slot gone = if has_found found slot then 2 else rehash_walks hash found gone + 1
+-- `merge_two_walks` counts the walks that put one pair in the place of two, of which the first has the hash `before` and
+-- the second is that of this slot. If the search found that slot, one walk removes the first pair, and one ends at the
+-- second, which gets another number. Otherwise one walk removes the second pair, and then the first is replaced
+-- (`rehash_walks`).
+-- Example: If the search found the second item, it is 2.
+abbrev pub merge_two_walks : ℕ → FoundByHash → ℕ → ℕ
+merge_two_walks before found slot = if has_found found slot then 2 else rehash_walks before found.hash + 1
 
-  -- `merge_three_walks` counts the walks that put one pair in the place of three, of which the second and the third are
-  -- those of these slots. One walk removes one of these two pairs, which the search did not find, and then two pairs
-  -- are replaced (`merge_two_walks`).
-  -- Example: If the search found the third item, it is 3.
-  abbrev pub merge_three_walks : (T → ℕ) → FoundByHash → ℕ → ℕ → T → ℕ
-  merge_three_walks hash found second third gone = if has_found found third then 3 else merge_two_walks hash found second gone + 1
+-- `merge_three_walks` counts the walks that put one pair in the place of three, of which the second and the third are
+-- those of these slots. One walk removes one of these two pairs, which the search did not find, and then two pairs
+-- are replaced (`merge_two_walks`).
+-- Example: If the search found the third item, it is 3.
+abbrev pub merge_three_walks : ℕ → FoundByHash → ℕ → ℕ → ℕ
+merge_three_walks before found second third = if has_found found third then 3 else merge_two_walks before found second + 1
 
 -- A search by one rank requires that no two items have equal keys, and that the table has the pairs of their hashes. No
 -- clause of a map cites it.

@@ -61,21 +61,19 @@ impl<T: BiHashItem, S: BuildHasher> BiHashMap<T, S> {
         ensures costs { KeyRemovalCosts (⟦<T as Hashed<S>>⟧.hash1 self.old.builder) (bag self.old) self.old.capacity
             hash (1 ∷ []) result (M.asked matcher.old) (M.asked matcher.new) meter.old meter.new }
     {
-        let slot = self
+        let (slot, cell) = self
             .first
-            .forget_by_key::<T, First, S, M>(
-                &self.items,
-                &self.hash_builder,
-                hash,
-                matcher,
-                meter,
-            )?;
+            .find_by_key::<T, First, S, M>(&self.items, &self.hash_builder, hash, matcher, meter)?;
+        // At each other rank:
+        let second_hash = self
+            .items
+            .hash_in::<Second, S>(slot, None, &self.hash_builder);
+        self.first.remove_cell(hash, (slot, cell), meter);
         let Some(item) = self.items.remove(slot) else {
             unreachable!()
         };
         // At each other rank:
-        self.second
-            .forget::<T, Second, S>(&self.hash_builder, &item, slot, None, meter);
+        self.second.remove(second_hash, slot, meter);
         Some(item)
     }
 
@@ -127,21 +125,19 @@ impl<T: BiHashItem, S: BuildHasher> BiHashMap<T, S> {
         ensures costs { KeyRemovalCosts (⟦<T as Hashed<S>>⟧.hash2 self.old.builder) (bag self.old) self.old.capacity
             hash (1 ∷ []) result (M.asked matcher.old) (M.asked matcher.new) meter.old meter.new }
     {
-        let slot = self
+        let (slot, cell) = self
             .second
-            .forget_by_key::<T, Second, S, M>(
-                &self.items,
-                &self.hash_builder,
-                hash,
-                matcher,
-                meter,
-            )?;
+            .find_by_key::<T, Second, S, M>(&self.items, &self.hash_builder, hash, matcher, meter)?;
+        // At each other rank:
+        let first_hash = self
+            .items
+            .hash_in::<First, S>(slot, None, &self.hash_builder);
+        self.second.remove_cell(hash, (slot, cell), meter);
         let Some(item) = self.items.remove(slot) else {
             unreachable!()
         };
         // At each other rank:
-        self.first
-            .forget::<T, First, S>(&self.hash_builder, &item, slot, None, meter);
+        self.first.remove(first_hash, slot, meter);
         Some(item)
     }
 

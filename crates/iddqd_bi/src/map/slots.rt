@@ -224,12 +224,11 @@ impl<T: BiHashItem, S: BuildHasher> BiHashMap<T, S> {
         ensures updates { Updates self.old.slots self.new.slots slot None }
         ensures costs { meter.new ≤ meter.old + walks_within (length (bag self.old)) (map (λ _. 1) ⟦<T as Ranked>⟧.ranks) }
     {
+        let (hash1, hash2) = self.hashes_in(slot, hash1, hash2);
         match self.items.remove(slot) {
             Some(item) => {
-                self.first
-                    .forget::<T, First, S>(&self.hash_builder, &item, slot, hash1, meter);
-                self.second
-                    .forget::<T, Second, S>(&self.hash_builder, &item, slot, hash2, meter);
+                self.first.remove(hash1, slot, meter);
+                self.second.remove(hash2, slot, meter);
                 item
             }
             None => unreachable!(),

@@ -63,15 +63,10 @@ impl<T: IdHashItem, S: BuildHasher> IdHashMap<T, S> {
         ensures costs { KeyRemovalCosts (⟦<T as Hashed<S>>⟧.hash self.old.builder) (bag self.old) self.old.capacity
             hash [] result (M.asked matcher.old) (M.asked matcher.new) meter.old meter.new }
     {
-        let slot = self
+        let (slot, cell) = self
             .first
-            .forget_by_key::<T, First, S, M>(
-                &self.items,
-                &self.hash_builder,
-                hash,
-                matcher,
-                meter,
-            )?;
+            .find_by_key::<T, First, S, M>(&self.items, &self.hash_builder, hash, matcher, meter)?;
+        self.first.remove_cell(hash, (slot, cell), meter);
         let Some(item) = self.items.remove(slot) else {
             unreachable!()
         };

@@ -69,10 +69,11 @@ impl<T: IdHashItem + Drop, S: BuildHasher> IdHashMap<T, S> {
         ensures reason { OnErr result (0 < wanted) }
         ensures unchanged { OnErr result (self.new ≡ self.old) }
     {
-        // All that can fail comes first: the new tables, then the slots.
+        // All that can fail comes first: the new tables, the hashes of the keys, then the slots.
         let mut first = self.first.fresh(pairs_for(wanted))?;
+        self.items
+            .fill_ahead::<First, S>(&mut first, &self.hash_builder);
         self.items.shrink_to(wanted)?;
-        self.items.fill::<First, S>(&mut first, &self.hash_builder);
         self.first = first;
         Ok(())
     }

@@ -185,10 +185,10 @@ impl<T: IdHashItem, S: BuildHasher> IdHashMap<T, S> {
         ensures costs { meter.new ≤ meter.old + walks_within (length (bag self.old)) (map
             (λ _. 1) ⟦<T as Ranked>⟧.ranks) }
     {
+        let hash = self.hashes_in(slot, hash);
         match self.items.remove(slot) {
             Some(item) => {
-                self.first
-                    .forget::<T, First, S>(&self.hash_builder, &item, slot, hash, meter);
+                self.first.remove(hash, slot, meter);
                 item
             }
             None => unreachable!(),

@@ -162,8 +162,9 @@ where
         ensures probed { probed.new ≤ probed.old + walks_within (length (bag self.old)) (map (λ _. 2) M.ranks) }
     {
         let place = Sorted::<M>::place_of_slot(&self.map, &self.order, slot, meter);
-        let _ = self.order.remove(place);
+        // The map goes first: it may hash keys, which runs code of the caller, and the order does not.
         let gone = self.map.overwrite_at(slot, item, found, probed);
+        let _ = self.order.remove(place);
         Sorted::<M>::settle(&self.map, &mut self.order, slot, meter);
         gone
     }

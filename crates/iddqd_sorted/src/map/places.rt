@@ -91,7 +91,10 @@ where
         ensures kept { (self.new.capacity ≡ self.old.capacity) × (self.new.builder ≡ self.old.builder) }
         ensures probed { meter.new ≤ meter.old + walks_within (length (items self.old)) (map (λ _. 1) M.ranks) }
     {
-        let (entry, behind) = self.order.remove(place);
-        (self.map.remove_at(entry.slot, meter), behind)
+        // The map goes first: it may hash keys, which runs code of the caller, and the order does not.
+        let slot = self.order.entry_in(place).slot;
+        let gone = self.map.remove_at(slot, meter);
+        let (_, behind) = self.order.remove(place);
+        (gone, behind)
     }
 }

@@ -44,8 +44,10 @@ where
             return None;
         };
         let place = Sorted::<M>::place_of_slot(&self.map, &self.order, slot, meter);
+        // The map goes first: it may hash keys, which runs code of the caller, and the order does not.
+        let gone = self.map.remove_by(slot, hash, &mut costs.probed);
         let _ = self.order.remove(place);
-        Some(self.map.remove_by(slot, hash, &mut costs.probed))
+        Some(gone)
     }
 
     /// Removes the item of this slot, by a search in the order and one walk through each table, and returns it. The call hashes
@@ -66,7 +68,9 @@ where
         ensures probed { probed.new ≤ probed.old + walks_within (length (bag self.old)) (map (λ _. 1) M.ranks) }
     {
         let place = Sorted::<M>::place_of_slot(&self.map, &self.order, slot, meter);
+        // The map goes first: it may hash keys, which runs code of the caller, and the order does not.
+        let gone = self.map.remove_at(slot, probed);
         let _ = self.order.remove(place);
-        self.map.remove_at(slot, probed)
+        gone
     }
 }

@@ -1,10 +1,10 @@
 -- What a search by one rank finds, and what it costs.
-use Rattle.std.specs.Prelude.{◌≡◌, ℕ, ◌*◌, ◌/◌, ◌≤◌, Bool, List, None, Option, length}
+use Rattle.std.specs.Prelude.{◌≡◌, ℕ, ◌+◌, ◌*◌, ◌/◌, ◌%◌, ◌<◌, ◌≤◌, Bool, List, None, Some, Option, IfNone, length, count_by}
 use Rattle.std.specs.Option.{option_and_then}
 use Rattle.iddqd_store.specs.declared.index_table.searched.Searched.{Searched}
 use Rattle.iddqd_store.specs.declared.index_table.searched.Searched.TheVariants.{Found, Vacant}
 use Rattle.iddqd_store.specs.Searched.{IfVacant}
-use Rattle.std.proofs.Common.{arith, sym}
+use Rattle.std.proofs.Common.{arith, refl, sym}
 use Rattle.iddqd_store.specs.Slots.{contents, get}
 use Rattle.std.proofs.lemmas.List.Sorted.{IsPermutation-sym}
 use Rattle.iddqd_store.specs.Rank.Index.{IsIndex, passes_at}
@@ -12,7 +12,8 @@ use Rattle.iddqd_store.specs.Bag.{IsOnly}
 use Rattle.iddqd_store.specs.Rank.{IsSearchable, IsVacantFor, NamesOneByHash, SearchCosts}
 use Rattle.iddqd_store.specs.Table.Room.{IsSized}
 use Rattle.iddqd_store.specs.Table.Search.{CostsByHash, FindsByHash, IsVacantForHash, RemovalCosts}
-use Rattle.iddqd_store.specs.Table.{hashes, IsFree, Spot, Table}
+use Rattle.iddqd_store.specs.Table.Ring.{gap, stretch}
+use Rattle.iddqd_store.specs.Table.{hashes, has_hash, IsFree, Spot, Table}
 use Rattle.iddqd_store.proofs.RankLemmas.Search.{search_among}
 use Rattle.iddqd_store.proofs.RankLemmas.Index.{crowd_is, length-index}
 use Rattle.iddqd_store.proofs.RankLemmas.Probes.{hashes-index, probes_within, probes_within_most}
@@ -41,6 +42,28 @@ module _ {T : Type 0} {agree : T → T → Bool} {hash : T → ℕ} {slots : Lis
         within = own.within;
       }
 
+  -- a search that found a cell, and then a removal from it
+  pub found_removal : (h at asks asks_then before between after : ℕ) → IsSized table
+      → asks_then ≤ asks + count_by (has_hash h) table.pairs → stretch (hashes table.pairs) (length table.row) h ≤ length table.pairs
+      → (length table.row ≡ 0 → between ≡ before) → between ≡ before + gap (length table.row) (h % length table.row) at + 1
+      → after + gap (length table.row) (h % length table.row) at ≡ between + stretch (hashes table.pairs) (length table.row) h
+      → SearchCosts {A = ℕ} hash (contents slots) table.limit h None asks asks_then before after
+  found_removal h at asks asks_then before between after sized asked within none search rest =
+      removal_costs h asks asks_then before after sized record {
+        asked = asked;
+        no_cells = λ no. absurd (omega (arith, none no, search));
+        probes = λ some. omega (arith, search, rest);
+        within = within;
+      }
+
+  -- a search that found no cell
+  pub missed_removal : (h asks asks_then before after : ℕ) → IsSized table
+      → asks_then ≤ asks + count_by (has_hash h) table.pairs → stretch (hashes table.pairs) (length table.row) h ≤ length table.pairs
+      → (length table.row ≡ 0 → after ≡ before) → (0 < length table.row → after ≡ before + stretch (hashes table.pairs) (length table.row) h + 1)
+      → SearchCosts {A = ℕ} hash (contents slots) table.limit h None asks asks_then before after
+  missed_removal h asks asks_then before after sized asked within none miss =
+      removal_costs h asks asks_then before after sized record { asked = asked; no_cells = none; probes = miss; within = within }
+
   -- the cell at which the table's search ended is for the members' hashes, and one of as many cells as the table has
   pub vacant_found : (h : ℕ) (r : Searched ℕ Spot) → IsSized table → IfVacant r (IsVacantForHash table h) → IfVacant r (IsVacantFor hash (contents slots) h)
   vacant_found h (Found at) sized vacant = tt
@@ -68,3 +91,8 @@ pub SearchCosts-room : {T A : Type 0} {hash : T → ℕ} {bag : List T} {room h 
 SearchCosts-room less below costs =
     let probes = costs.probes in
     record { asked = costs.asked; probes = (probes.0, probes.1, probes.2, omega (arith, below, probes.3), probes.4); at_most = costs.at_most }
+
+-- a search that was all there is
+pub only_search : {A : Type 0} (answer : Option A) (after : ℕ) → IfNone answer (after ≡ after)
+only_search None after = refl
+only_search (Some x) after = tt

@@ -1,7 +1,7 @@
 -- How a map stays indexed if items leave their slots, and another item takes the slot of the first of them.
-use Rattle.std.specs.Prelude.{◌≡◌, ◌<◌, ◌≤◌, ℕ, zero, suc, nat_eq, false, List, [], ◌∷◌, ◌++◌, length, map, Option, Some, None, IfSome, IsSome, slice_set, ⊤, All, IsPermutation}
+use Rattle.std.specs.Prelude.{◌≡◌, ◌<◌, ◌≤◌, ℕ, zero, suc, nat_eq, false, List, [], ◌∷◌, ◌++◌, length, map, Option, Some, None, IfSome, IsSome, slice_set, ⊤, All, Contains, IsPermutation}
 use Rattle.std.specs.List.{AllByRecursion, IsDistinct}
-use Rattle.std.proofs.Common.{get_or, refl, arith, subst, ◌∙◌, length-append}
+use Rattle.std.proofs.Common.{get_or, refl, arith, subst, sym, ◌∙◌, length-append}
 use Rattle.std.proofs.lemmas.List.{get_or_past, get_or-set_other, get_or-set_same}
 use Rattle.std.proofs.lemmas.List.Elements.{All-head, All-tail}
 use Rattle.std.proofs.lemmas.Map.Keys.{IsDistinct-head, IsDistinct-tail}
@@ -9,7 +9,7 @@ use Rattle.std.proofs.lemmas.List.Sorted.{IsPermutation-refl, IsPermutation-sym,
 use Rattle.iddqd_store.specs.Bag.{Ranks, AreLawful, IsSound, conflicts_of, conflicting, with_item}
 use Rattle.iddqd_store.specs.Map.{Map, PutsAt, bag}
 use Rattle.iddqd_store.specs.Rank.Index.{HasHash, IsIndex, AreIndexes, IsIndexed, pair_of}
-use Rattle.iddqd_store.specs.Rank.{IsPaired, IsHashed, FoundByHash}
+use Rattle.iddqd_store.specs.Rank.{IsHashed, FoundByHash}
 use Rattle.iddqd_store.specs.Slots.{IsLive, contents, get, members}
 use Rattle.iddqd_store.specs.Slots.Found.{StandAt, items_at}
 use Rattle.iddqd_store.proofs.BagLemmas.Over.{conflicts_of-taken}
@@ -21,13 +21,23 @@ use Rattle.iddqd_store.proofs.SlotLemmas.Chain.{members-take, members-set}
 use Rattle.iddqd_store.proofs.SlotLemmas.Contents.{contents-moves, contents-take}
 
 module _ {T : Type 0} where
-  -- the pair of an item in a slot is there, and a search that found the slot was made by its hash
-  pub paired_at : {hash : T → ℕ} {slots : List (Option T)} {pairs : List (ℕ × ℕ)} (found : FoundByHash) (at : ℕ) (x : T)
-      → IsIndex hash slots pairs → IsHashed hash slots found → get slots at ≡ Some x → IsPaired hash pairs found at x
-  paired_at {hash = hash} {slots = slots} found at x index hashed stands = record {
-    pair = pair_in at x (hash x) index refl stands;
-    known = λ is. subst (λ (o : Option ℕ). IfSome o (λ i. HasHash hash slots i found.hash)) is hashed x stands;
-  }
+  -- the pair of a slot is there, by a hash that its item has
+  pub paired_at : {hash : T → ℕ} {slots : List (Option T)} {pairs : List (ℕ × ℕ)} (at : ℕ) (x : T) (h : ℕ)
+      → IsIndex hash slots pairs → HasHash hash slots at h → get slots at ≡ Some x → Contains pairs (h, at)
+  paired_at at x h index hashed stands = pair_in at x h index (sym (hashed x stands)) stands
+
+  -- what a search that found the slot knows is the hash of its item
+  pub known_at : (hash : T → ℕ) (slots : List (Option T)) (found : FoundByHash) (at : ℕ) (known : Option ℕ) → IsHashed hash slots found
+      → IfSome known (λ h. (found.slot ≡ Some at) × (h ≡ found.hash)) → IfSome known (HasHash hash slots at)
+  known_at hash slots found at None hashed is = tt
+  known_at hash slots found at (Some h) hashed is =
+      rw is.1 (subst (λ (o : Option ℕ). IfSome o (λ i. HasHash hash slots i found.hash)) is.0 hashed)
+
+  -- a hash of the slot that a search found is that of the search
+  pub same_hash : (hash : T → ℕ) (slots : List (Option T)) (found : FoundByHash) (at : ℕ) (x : T) (h : ℕ) → IsHashed hash slots found
+      → HasHash hash slots at h → get slots at ≡ Some x → found.slot ≡ Some at → h ≡ found.hash
+  same_hash hash slots found at x h hashed has stands is =
+      sym (has x stands) ∙ subst (λ (o : Option ℕ). IfSome o (λ i. HasHash hash slots i found.hash)) is hashed x stands
 
   -- the slots without the items of these
   abbrev pub without : List (Option T) → List ℕ → List (Option T)
@@ -48,7 +58,7 @@ module _ {T : Type 0} where
   stayed (o ∷ slots) (suc gone) zero x is = is
   stayed (o ∷ slots) (suc gone) (suc at) x is = stayed slots gone at x is
 
-  was_there : (slots : List (Option T)) (numbers : List ℕ) (at : ℕ) (x : T) → get (without slots numbers) at ≡ Some x → get slots at ≡ Some x
+  pub was_there : (slots : List (Option T)) (numbers : List ℕ) (at : ℕ) (x : T) → get (without slots numbers) at ≡ Some x → get slots at ≡ Some x
   was_there slots [] at x is = is
   was_there slots (gone ∷ numbers) at x is = was_there slots numbers at x (stayed (without slots numbers) gone at x is)
 
@@ -76,15 +86,6 @@ module _ {T : Type 0} where
       let others = map (pair_of hash) (leaving numbers xs) in
       let before = IsPermutation-trans _ _ _ out (IsPermutation-sym _ _ (IsPermutation-middle others (hash x, at) rest)) in
       IsIndex-remove x (IsIndex-without hash slots numbers xs pairs ((hash x, at) ∷ rest) index leave.1 before) refl (members-take (without slots numbers) at x leave.0) (IsPermutation-refl _)
-
-  -- the pairs of those that leave are there
-  pub paired_each : {hash : T → ℕ} {slots : List (Option T)} {pairs : List (ℕ × ℕ)} (found : FoundByHash) (numbers : List ℕ) (xs : List T)
-      → IsIndex hash slots pairs → IsHashed hash slots found → Leave slots numbers xs → AllByRecursion (λ m. IsPaired hash pairs found m.0 m.1) (leaving numbers xs)
-  paired_each found [] [] index hashed leave = tt
-  paired_each found [] (x ∷ xs) index hashed leave = absurd leave
-  paired_each found (at ∷ numbers) [] index hashed leave = absurd leave
-  paired_each {slots = slots} found (at ∷ numbers) (x ∷ xs) index hashed leave =
-      (paired_at found at x index hashed (was_there slots numbers at x leave.0), paired_each found numbers xs index hashed leave.1)
 
   -- in each table the pair of another item has replaced the pairs of those that leave
   abbrev pub AreDisplaced : List (ℕ × T) → T → ℕ → List (T → ℕ) → List (List (ℕ × ℕ)) → List (List (ℕ × ℕ)) → Type 0

@@ -17,23 +17,23 @@ not_found_at : (o : Option ℕ) (at : ℕ) → o ≢ Some at → option_map_or (
 not_found_at None at h = refl
 not_found_at (Some s) at h = ne_eqb s at (λ e. h (ap (λ (i : ℕ). Some i) e))
 
-module _ {T : Type 0} (hash : T → ℕ) (found : FoundByHash) (gone : T) where
-  pub one_stays : hash gone ≡ found.hash → rehash_walks hash found gone ≡ 0
-  one_stays same = rw (eq-eqb _ _ same) refl
+pub one_stays : (before after : ℕ) → before ≡ after → rehash_walks before after ≡ 0
+one_stays before after same = rw (eq-eqb _ _ same) refl
 
-  pub one_moves : hash gone ≢ found.hash → rehash_walks hash found gone ≡ 2
-  one_moves other = rw (ne_eqb _ _ other) refl
+pub one_moves : (before after : ℕ) → before ≢ after → rehash_walks before after ≡ 2
+one_moves before after other = rw (ne_eqb _ _ other) refl
 
-  pub two_found : (at : ℕ) → found.slot ≡ Some at → merge_two_walks hash found at gone ≡ 2
+module _ (before : ℕ) (found : FoundByHash) where
+  pub two_found : (at : ℕ) → found.slot ≡ Some at → merge_two_walks before found at ≡ 2
   two_found at here = rw (found_at found.slot at here) refl
 
-  pub two_not_found : (at : ℕ) → found.slot ≢ Some at → merge_two_walks hash found at gone ≡ rehash_walks hash found gone + 1
+  pub two_not_found : (at : ℕ) → found.slot ≢ Some at → merge_two_walks before found at ≡ rehash_walks before found.hash + 1
   two_not_found at away = rw (not_found_at found.slot at away) refl
 
-  pub three_found : (second third : ℕ) → found.slot ≡ Some third → merge_three_walks hash found second third gone ≡ 3
+  pub three_found : (second third : ℕ) → found.slot ≡ Some third → merge_three_walks before found second third ≡ 3
   three_found second third here = rw (found_at found.slot third here) refl
 
-  pub three_not_found : (second third : ℕ) → found.slot ≢ Some third → merge_three_walks hash found second third gone ≡ merge_two_walks hash found second gone + 1
+  pub three_not_found : (second third : ℕ) → found.slot ≢ Some third → merge_three_walks before found second third ≡ merge_two_walks before found second + 1
   three_not_found second third away = rw (not_found_at found.slot third away) refl
 
   -- at most
@@ -49,14 +49,14 @@ module _ {T : Type 0} (hash : T → ℕ) (found : FoundByHash) (gone : T) where
   at_most_three true k less = omega arith
   at_most_three false k less = less
 
-  one_most : rehash_walks hash found gone ≤ 2
-  one_most = at_most_none (hash gone == found.hash)
+  one_most : rehash_walks before found.hash ≤ 2
+  one_most = at_most_none (before == found.hash)
 
-  two_most : (at : ℕ) → merge_two_walks hash found at gone ≤ 3
-  two_most at = at_most_two (has_found found at) (rehash_walks hash found gone + 1) (let one = one_most in omega (arith, one))
+  two_most : (at : ℕ) → merge_two_walks before found at ≤ 3
+  two_most at = at_most_two (has_found found at) (rehash_walks before found.hash + 1) (let one = one_most in omega (arith, one))
 
-  three_most : (second third : ℕ) → merge_three_walks hash found second third gone ≤ 4
-  three_most second third = at_most_three (has_found found third) (merge_two_walks hash found second gone + 1) (let two = two_most second in omega (arith, two))
+  three_most : (second third : ℕ) → merge_three_walks before found second third ≤ 4
+  three_most second third = at_most_three (has_found found third) (merge_two_walks before found second + 1) (let two = two_most second in omega (arith, two))
 
 -- walks through fewer pairs probe no more cells
 pub walks_less : (w k n : ℕ) → k ≤ n → w * (k + 1) ≤ w * (n + 1)
@@ -149,13 +149,13 @@ module _ {T : Type 0} where
 
   -- at most one more than items leave
   pub ones_most : (gone : T) (hashes : List (T → ℕ)) (found : List FoundByHash) (n before after : ℕ)
-      → after ≤ before + walks_within n (walks_each (λ hash at. rehash_walks hash at gone) hashes found) → after ≤ before + walks_within n (map (λ _. 2) hashes)
-  ones_most gone = each_most (λ hash at. rehash_walks hash at gone) 2 (λ hash at. one_most hash at gone)
+      → after ≤ before + walks_within n (walks_each (λ hash at. rehash_walks (hash gone) at.hash) hashes found) → after ≤ before + walks_within n (map (λ _. 2) hashes)
+  ones_most gone = each_most (λ hash at. rehash_walks (hash gone) at.hash) 2 (λ hash at. one_most (hash gone) at)
 
   pub twos_most : (second : ℕ) (gone : T) (hashes : List (T → ℕ)) (found : List FoundByHash) (n before after : ℕ)
-      → after ≤ before + walks_within n (walks_each (λ hash at. merge_two_walks hash at second gone) hashes found) → after ≤ before + walks_within n (map (λ _. 3) hashes)
-  twos_most second gone = each_most (λ hash at. merge_two_walks hash at second gone) 3 (λ hash at. two_most hash at gone second)
+      → after ≤ before + walks_within n (walks_each (λ hash at. merge_two_walks (hash gone) at second) hashes found) → after ≤ before + walks_within n (map (λ _. 3) hashes)
+  twos_most second gone = each_most (λ hash at. merge_two_walks (hash gone) at second) 3 (λ hash at. two_most (hash gone) at second)
 
   pub threes_most : (second third : ℕ) (gone : T) (hashes : List (T → ℕ)) (found : List FoundByHash) (n before after : ℕ)
-      → after ≤ before + walks_within n (walks_each (λ hash at. merge_three_walks hash at second third gone) hashes found) → after ≤ before + walks_within n (map (λ _. 4) hashes)
-  threes_most second third gone = each_most (λ hash at. merge_three_walks hash at second third gone) 4 (λ hash at. three_most hash at gone second third)
+      → after ≤ before + walks_within n (walks_each (λ hash at. merge_three_walks (hash gone) at second third) hashes found) → after ≤ before + walks_within n (map (λ _. 4) hashes)
+  threes_most second third gone = each_most (λ hash at. merge_three_walks (hash gone) at second third) 4 (λ hash at. three_most (hash gone) at second third)

@@ -1,16 +1,8 @@
 -- A pair leaves a table before another one is replaced.
 use Rattle.std.proofs.Common.{ℕ, List, ◌∷◌, []}
-use Rattle.std.specs.Prelude.{◌≢◌}
 use Rattle.std.specs.List.Sorted.{IsPermutation}
 use Rattle.std.proofs.lemmas.List.Sorted.{IsPermutation-cons, IsPermutation-middle, IsPermutation-sym, IsPermutation-trans}
-use Rattle.iddqd_store.specs.Rank.{IsPaired, FoundByHash}
 use Rattle.iddqd_store.specs.Table.{ReplacesPair, ReplacesTwo, ReplacesThree}
-use Rattle.iddqd_store.proofs.TableLemmas.Renumber.{stays}
-
--- an item stays paired if the pair of another slot leaves
-pub paired : {T : Type 0} {hash : T → ℕ} {pairs rest : List (ℕ × ℕ)} {found : FoundByHash} {gone : ℕ × ℕ} {at : ℕ} {x : T}
-    → IsPermutation pairs (gone ∷ rest) → at ≢ gone.1 → IsPaired hash pairs found at x → IsPaired hash rest found at x
-paired {pairs = pairs} {rest = rest} taken apart is = record { pair = stays pairs rest _ _ taken is.pair apart; known = is.known }
 
 module _ {old rest new : List (ℕ × ℕ)} {one two pair : ℕ × ℕ} where
   pub after_one : IsPermutation old (one ∷ rest) → ReplacesPair rest new two pair → ReplacesTwo old new one two pair

@@ -1,7 +1,7 @@
 -- What a search of a table returns and costs.
-use Rattle.std.specs.Prelude.{ℕ, ◌+◌, ◌≡◌, ◌<◌, ◌≤◌, Bool, true, false, Option}
-use Rattle.std.specs.Prelude.{Contains, IfSome, IfNone, length, count_by}
-use Rattle.iddqd_store.specs.Table.Ring.{stretch}
+use Rattle.std.specs.Prelude.{ℕ, ◌+◌, ◌%◌, ◌≡◌, ◌<◌, ◌≤◌, Bool, true, false, Option}
+use Rattle.std.specs.Prelude.{Contains, IfSome, IfNone, MatchOption, length, count_by}
+use Rattle.iddqd_store.specs.Table.Ring.{gap, stretch}
 use Rattle.iddqd_store.specs.Table.{hashes, has_hash, IsFree, Probes, Spot, Table}
 
 -- The result is a slot with this hash that is accepted, or `None` if no slot with the hash is accepted.
@@ -35,3 +35,11 @@ pub record RemovalCosts (table : Table) (hash asks asks_then before after : ℕ)
   pub no_cells : length table.row ≡ 0 → after ≡ before
   pub probes : 0 < length table.row → after ≡ before + stretch (hashes table.pairs) (length table.row) hash + 1
   pub within : stretch (hashes table.pairs) (length table.row) hash ≤ length table.pairs
+
+-- If a search found this cell, a removal from it has probed the cells after it, up to the first empty one; if it found none,
+-- nothing.
+-- Example: Among 8 cells with the hashes 2, 2 a removal from the cell 2 probes 2 cells, and one from the cell 3 one.
+abbrev pub IsRemovedAt : Table → ℕ → Option ℕ → ℕ → ℕ → Type 0
+IsRemovedAt table hash found before after =
+    MatchOption found (after ≡ before)
+    (λ at. after + gap (length table.row) (hash % length table.row) at ≡ before + stretch (hashes table.pairs) (length table.row) hash)

@@ -63,23 +63,23 @@ impl<T: TriHashItem, S: BuildHasher> TriHashMap<T, S> {
         ensures costs { KeyRemovalCosts (⟦<T as Hashed<S>>⟧.hash1 self.old.builder) (bag self.old) self.old.capacity
             hash (1 ∷ 1 ∷ []) result (M.asked matcher.old) (M.asked matcher.new) meter.old meter.new }
     {
-        let slot = self
+        let (slot, cell) = self
             .first
-            .forget_by_key::<T, First, S, M>(
-                &self.items,
-                &self.hash_builder,
-                hash,
-                matcher,
-                meter,
-            )?;
+            .find_by_key::<T, First, S, M>(&self.items, &self.hash_builder, hash, matcher, meter)?;
+        // At each other rank:
+        let second_hash = self
+            .items
+            .hash_in::<Second, S>(slot, None, &self.hash_builder);
+        let third_hash = self
+            .items
+            .hash_in::<Third, S>(slot, None, &self.hash_builder);
+        self.first.remove_cell(hash, (slot, cell), meter);
         let Some(item) = self.items.remove(slot) else {
             unreachable!()
         };
         // At each other rank:
-        self.second
-            .forget::<T, Second, S>(&self.hash_builder, &item, slot, None, meter);
-        self.third
-            .forget::<T, Third, S>(&self.hash_builder, &item, slot, None, meter);
+        self.second.remove(second_hash, slot, meter);
+        self.third.remove(third_hash, slot, meter);
         Some(item)
     }
 
@@ -131,23 +131,23 @@ impl<T: TriHashItem, S: BuildHasher> TriHashMap<T, S> {
         ensures costs { KeyRemovalCosts (⟦<T as Hashed<S>>⟧.hash2 self.old.builder) (bag self.old) self.old.capacity
             hash (1 ∷ 1 ∷ []) result (M.asked matcher.old) (M.asked matcher.new) meter.old meter.new }
     {
-        let slot = self
+        let (slot, cell) = self
             .second
-            .forget_by_key::<T, Second, S, M>(
-                &self.items,
-                &self.hash_builder,
-                hash,
-                matcher,
-                meter,
-            )?;
+            .find_by_key::<T, Second, S, M>(&self.items, &self.hash_builder, hash, matcher, meter)?;
+        // At each other rank:
+        let first_hash = self
+            .items
+            .hash_in::<First, S>(slot, None, &self.hash_builder);
+        let third_hash = self
+            .items
+            .hash_in::<Third, S>(slot, None, &self.hash_builder);
+        self.second.remove_cell(hash, (slot, cell), meter);
         let Some(item) = self.items.remove(slot) else {
             unreachable!()
         };
         // At each other rank:
-        self.first
-            .forget::<T, First, S>(&self.hash_builder, &item, slot, None, meter);
-        self.third
-            .forget::<T, Third, S>(&self.hash_builder, &item, slot, None, meter);
+        self.first.remove(first_hash, slot, meter);
+        self.third.remove(third_hash, slot, meter);
         Some(item)
     }
 
@@ -199,23 +199,23 @@ impl<T: TriHashItem, S: BuildHasher> TriHashMap<T, S> {
         ensures costs { KeyRemovalCosts (⟦<T as Hashed<S>>⟧.hash3 self.old.builder) (bag self.old) self.old.capacity
             hash (1 ∷ 1 ∷ []) result (M.asked matcher.old) (M.asked matcher.new) meter.old meter.new }
     {
-        let slot = self
+        let (slot, cell) = self
             .third
-            .forget_by_key::<T, Third, S, M>(
-                &self.items,
-                &self.hash_builder,
-                hash,
-                matcher,
-                meter,
-            )?;
+            .find_by_key::<T, Third, S, M>(&self.items, &self.hash_builder, hash, matcher, meter)?;
+        // At each other rank:
+        let first_hash = self
+            .items
+            .hash_in::<First, S>(slot, None, &self.hash_builder);
+        let second_hash = self
+            .items
+            .hash_in::<Second, S>(slot, None, &self.hash_builder);
+        self.third.remove_cell(hash, (slot, cell), meter);
         let Some(item) = self.items.remove(slot) else {
             unreachable!()
         };
         // At each other rank:
-        self.first
-            .forget::<T, First, S>(&self.hash_builder, &item, slot, None, meter);
-        self.second
-            .forget::<T, Second, S>(&self.hash_builder, &item, slot, None, meter);
+        self.first.remove(first_hash, slot, meter);
+        self.second.remove(second_hash, slot, meter);
         Some(item)
     }
 

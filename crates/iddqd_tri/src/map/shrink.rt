@@ -73,15 +73,17 @@ impl<T: TriHashItem + Drop, S: BuildHasher> TriHashMap<T, S> {
         ensures reason { OnErr result (0 < wanted) }
         ensures unchanged { OnErr result (self.new ≡ self.old) }
     {
-        // All that can fail comes first: the new tables, then the slots.
+        // All that can fail comes first: the new tables, the hashes of the keys, then the slots.
         let mut first = self.first.fresh(pairs_for(wanted))?;
         let mut second = self.second.fresh(pairs_for(wanted))?;
         let mut third = self.third.fresh(pairs_for(wanted))?;
-        self.items.shrink_to(wanted)?;
-        self.items.fill::<First, S>(&mut first, &self.hash_builder);
         self.items
-            .fill::<Second, S>(&mut second, &self.hash_builder);
-        self.items.fill::<Third, S>(&mut third, &self.hash_builder);
+            .fill_ahead::<First, S>(&mut first, &self.hash_builder);
+        self.items
+            .fill_ahead::<Second, S>(&mut second, &self.hash_builder);
+        self.items
+            .fill_ahead::<Third, S>(&mut third, &self.hash_builder);
+        self.items.shrink_to(wanted)?;
         self.first = first;
         self.second = second;
         self.third = third;

@@ -263,14 +263,12 @@ impl<T: TriHashItem, S: BuildHasher> TriHashMap<T, S> {
         ensures costs { meter.new ≤ meter.old + walks_within (length (bag self.old)) (map
             (λ _. 1) ⟦<T as Ranked>⟧.ranks) }
     {
+        let (hash1, hash2, hash3) = self.hashes_in(slot, hash1, hash2, hash3);
         match self.items.remove(slot) {
             Some(item) => {
-                self.first
-                    .forget::<T, First, S>(&self.hash_builder, &item, slot, hash1, meter);
-                self.second
-                    .forget::<T, Second, S>(&self.hash_builder, &item, slot, hash2, meter);
-                self.third
-                    .forget::<T, Third, S>(&self.hash_builder, &item, slot, hash3, meter);
+                self.first.remove(hash1, slot, meter);
+                self.second.remove(hash2, slot, meter);
+                self.third.remove(hash3, slot, meter);
                 item
             }
             None => unreachable!(),

@@ -1,10 +1,11 @@
 //! Inserting an item in place of others.
 //!
 //! Made by tests/widths from crates/iddqd_bi/src/map/slots/over.rt: change that file.
-ghost use Rattle.std.specs.Prelude.{◌≡◌, ◌≢◌, ◌+◌, ◌≤◌, [], ◌∷◌, length, map, None, Some, IfOk, IfErr, OnOk, OnErr, slice_set};
+ghost use Rattle.std.specs.Prelude.{◌≡◌, ◌≢◌, ◌+◌, ◌≤◌, [], ◌∷◌, length, map, None, Some, IfOk, IfErr, IfSome, OnOk, OnErr, slice_set};
 ghost use Rattle.iddqd_store.specs.Bag.{conflicts_of, conflicting, with_item};
 ghost use Rattle.iddqd_store.specs.Map.{bag, ListsConflicts, PutsAt};
 ghost use Rattle.iddqd_store.specs.Rank.All.{ArePlacesOf, AreHashed, HaveHashes, PlacingCosts, hashes_of};
+ghost use Rattle.iddqd_store.specs.Rank.Index.{HasHash};
 ghost use Rattle.iddqd_store.specs.Rank.{rehash_walks, walks_within};
 ghost use Rattle.iddqd_store.specs.Slots.{get, contents, IsLive, Updates};
 ghost use Rattle.iddqd_store.specs.Slots.Found.{each_once};
@@ -88,13 +89,12 @@ impl<T: IdHashItem, S: BuildHasher> IdHashMap<T, S> {
         ensures puts_at { PutsAt ⟦<T as Ranked>⟧.ranks self.old slot item
             (item ∷ contents (slice_set self.old.slots slot None)) self.new }
         ensures costs { meter.new ≤ meter.old + walks_within (length (bag self.old))
-            (rehash_walks (⟦<T as Hashed<S>>⟧.hash self.old.builder) (record { slot = None; hash = at.hash }) result
-            ∷ []) }
+            (rehash_walks (⟦<T as Hashed<S>>⟧.hash self.old.builder result) at.hash ∷ []) }
     {
         self.note_that_items_fit();
+        let before = self.hashes_in(slot, None);
         let gone = self.items.replace(slot, item);
-        self.first
-            .rehash_into::<T, First, S>(&self.hash_builder, (slot, &gone), at, meter);
+        self.first.rehash_into(before, at, slot, meter);
         gone
     }
 
@@ -118,12 +118,36 @@ impl<T: IdHashItem, S: BuildHasher> IdHashMap<T, S> {
         ensures puts_at { PutsAt ⟦<T as Ranked>⟧.ranks self.old slot item
             (item ∷ contents (slice_set self.old.slots slot None)) self.new }
         ensures costs { meter.new ≤ meter.old + walks_within (length (bag self.old))
-            (rehash_walks (⟦<T as Hashed<S>>⟧.hash self.old.builder) found.now result ∷ []) }
+            (rehash_walks (⟦<T as Hashed<S>>⟧.hash self.old.builder result) found.now.hash ∷ []) }
     {
         self.note_that_items_fit();
+        let before = self.hashes_found(slot, found);
         let gone = self.items.replace(slot, item);
-        self.first
-            .rehash::<T, First, S>(&self.hash_builder, (slot, &gone), found, meter);
+        self.first.rehash(before, found.hash(), slot, meter);
         gone
+    }
+
+    /// Returns the hash of the key of the item in this slot. It hashes a key only if its hash is not given.
+    #[inline(always)]
+    pub(crate) fn hashes_in(&self, slot: ItemIndex, hash: Option<u64>) -> u64
+        requires live { IsLive self.now.slots slot }
+        requires hash { IfSome hash (HasHash (⟦<T as Hashed<S>>⟧.hash self.now.builder) self.now.slots slot) }
+        ensures hash { HasHash (⟦<T as Hashed<S>>⟧.hash self.now.builder) self.now.slots slot result }
+    {
+        let hash = self
+            .items
+            .hash_in::<First, S>(slot, hash, &self.hash_builder);
+        hash
+    }
+
+    /// Returns the hash of the key of the item in this slot. It does not hash a key by which a search found the slot.
+    #[inline(always)]
+    fn hashes_found(&self, slot: ItemIndex, found: &FoundByHash) -> u64
+        requires live { IsLive self.now.slots slot }
+        requires hashed { AreHashed
+            (⟦<T as Hashed<S>>⟧.hashes self.now.builder) self.now.slots (found.now ∷ []) }
+        ensures hash { HasHash (⟦<T as Hashed<S>>⟧.hash self.now.builder) self.now.slots slot result }
+    {
+        self.hashes_in(slot, found.hash_at(slot))
     }
 }

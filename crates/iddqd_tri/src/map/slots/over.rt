@@ -1,10 +1,11 @@
 //! Inserting an item in place of others.
 //!
 //! Made by tests/widths from crates/iddqd_bi/src/map/slots/over.rt: change that file.
-ghost use Rattle.std.specs.Prelude.{◌≡◌, ◌≢◌, ◌+◌, ◌≤◌, [], ◌∷◌, length, map, None, Some, IfOk, IfErr, OnOk, OnErr, slice_set};
+ghost use Rattle.std.specs.Prelude.{◌≡◌, ◌≢◌, ◌+◌, ◌≤◌, [], ◌∷◌, length, map, None, Some, IfOk, IfErr, IfSome, OnOk, OnErr, slice_set};
 ghost use Rattle.iddqd_store.specs.Bag.{conflicts_of, conflicting, with_item};
 ghost use Rattle.iddqd_store.specs.Map.{bag, ListsConflicts, PutsAt};
 ghost use Rattle.iddqd_store.specs.Rank.All.{ArePlacesOf, AreHashed, HaveHashes, PlacingCosts, hashes_of};
+ghost use Rattle.iddqd_store.specs.Rank.Index.{HasHash};
 ghost use Rattle.iddqd_store.specs.Rank.{rehash_walks, walks_within, merge_two_walks};
 ghost use Rattle.iddqd_store.specs.Slots.{get, contents, IsLive, Updates};
 ghost use Rattle.iddqd_store.specs.Slots.Found.{each_once};
@@ -126,21 +127,17 @@ impl<T: TriHashItem, S: BuildHasher> TriHashMap<T, S> {
         ensures puts_at { PutsAt ⟦<T as Ranked>⟧.ranks self.old slot item
             (item ∷ contents (slice_set self.old.slots slot None)) self.new }
         ensures costs { meter.new ≤ meter.old + walks_within (length (bag self.old))
-            (rehash_walks (⟦<T as Hashed<S>>⟧.hash1 self.old.builder) (record { slot = None; hash = at.0.hash }) result
-            ∷ rehash_walks (⟦<T as Hashed<S>>⟧.hash2 self.old.builder)
-            (record { slot = None; hash = at.1.hash }) result ∷ rehash_walks
-            (⟦<T as Hashed<S>>⟧.hash3 self.old.builder) (record { slot = None; hash = at.2.hash }) result
-            ∷ []) }
+            (rehash_walks (⟦<T as Hashed<S>>⟧.hash1 self.old.builder result) at.0.hash
+            ∷ rehash_walks (⟦<T as Hashed<S>>⟧.hash2 self.old.builder result) at.1.hash ∷ rehash_walks
+            (⟦<T as Hashed<S>>⟧.hash3 self.old.builder result) at.2.hash ∷ []) }
     {
         self.note_that_items_fit();
         let (at1, at2, at3) = at;
+        let (before1, before2, before3) = self.hashes_in(slot, None, None, None);
         let gone = self.items.replace(slot, item);
-        self.first
-            .rehash_into::<T, First, S>(&self.hash_builder, (slot, &gone), at1, meter);
-        self.second
-            .rehash_into::<T, Second, S>(&self.hash_builder, (slot, &gone), at2, meter);
-        self.third
-            .rehash_into::<T, Third, S>(&self.hash_builder, (slot, &gone), at3, meter);
+        self.first.rehash_into(before1, at1, slot, meter);
+        self.second.rehash_into(before2, at2, slot, meter);
+        self.third.rehash_into(before3, at3, slot, meter);
         gone
     }
 
@@ -165,19 +162,68 @@ impl<T: TriHashItem, S: BuildHasher> TriHashMap<T, S> {
         ensures puts_at { PutsAt ⟦<T as Ranked>⟧.ranks self.old slot item
             (item ∷ contents (slice_set self.old.slots slot None)) self.new }
         ensures costs { meter.new ≤ meter.old + walks_within (length (bag self.old))
-            (rehash_walks (⟦<T as Hashed<S>>⟧.hash1 self.old.builder) found.now.0 result
-            ∷ rehash_walks (⟦<T as Hashed<S>>⟧.hash2 self.old.builder) found.now.1 result ∷ rehash_walks
-            (⟦<T as Hashed<S>>⟧.hash3 self.old.builder) found.now.2 result ∷ []) }
+            (rehash_walks (⟦<T as Hashed<S>>⟧.hash1 self.old.builder result) found.now.0.hash
+            ∷ rehash_walks (⟦<T as Hashed<S>>⟧.hash2 self.old.builder result) found.now.1.hash ∷ rehash_walks
+            (⟦<T as Hashed<S>>⟧.hash3 self.old.builder result) found.now.2.hash ∷ []) }
     {
         self.note_that_items_fit();
+        let (before1, before2, before3) = self.hashes_found(slot, found);
         let gone = self.items.replace(slot, item);
-        self.first
-            .rehash::<T, First, S>(&self.hash_builder, (slot, &gone), &found.0, meter);
-        self.second
-            .rehash::<T, Second, S>(&self.hash_builder, (slot, &gone), &found.1, meter);
-        self.third
-            .rehash::<T, Third, S>(&self.hash_builder, (slot, &gone), &found.2, meter);
+        self.first.rehash(before1, found.0.hash(), slot, meter);
+        self.second.rehash(before2, found.1.hash(), slot, meter);
+        self.third.rehash(before3, found.2.hash(), slot, meter);
         gone
+    }
+
+    /// Returns the hash of each key of the item in this slot. It hashes a key only if its hash is not given.
+    #[inline(always)]
+    pub(crate) fn hashes_in(
+        &self,
+        slot: ItemIndex,
+        hash1: Option<u64>,
+        hash2: Option<u64>,
+        hash3: Option<u64>,
+    ) -> (u64, u64, u64)
+        requires live { IsLive self.now.slots slot }
+        requires hash1 { IfSome hash1 (HasHash (⟦<T as Hashed<S>>⟧.hash1 self.now.builder) self.now.slots slot) }
+        requires hash2 { IfSome hash2 (HasHash (⟦<T as Hashed<S>>⟧.hash2 self.now.builder) self.now.slots slot) }
+        requires hash3 { IfSome hash3 (HasHash (⟦<T as Hashed<S>>⟧.hash3 self.now.builder) self.now.slots slot) }
+        ensures hash1 { HasHash (⟦<T as Hashed<S>>⟧.hash1 self.now.builder) self.now.slots slot result.0 }
+        ensures hash2 { HasHash (⟦<T as Hashed<S>>⟧.hash2 self.now.builder) self.now.slots slot result.1 }
+        ensures hash3 { HasHash (⟦<T as Hashed<S>>⟧.hash3 self.now.builder) self.now.slots slot result.2 }
+    {
+        let hash1 = self
+            .items
+            .hash_in::<First, S>(slot, hash1, &self.hash_builder);
+        let hash2 = self
+            .items
+            .hash_in::<Second, S>(slot, hash2, &self.hash_builder);
+        let hash3 = self
+            .items
+            .hash_in::<Third, S>(slot, hash3, &self.hash_builder);
+        (hash1, hash2, hash3)
+    }
+
+    /// Returns the hash of each key of the item in this slot. It does not hash a key by which a search found the slot.
+    #[inline(always)]
+    fn hashes_found(
+        &self,
+        slot: ItemIndex,
+        found: &(FoundByHash, FoundByHash, FoundByHash),
+    ) -> (u64, u64, u64)
+        requires live { IsLive self.now.slots slot }
+        requires hashed { AreHashed
+            (⟦<T as Hashed<S>>⟧.hashes self.now.builder) self.now.slots (found.now.0 ∷ found.now.1 ∷ found.now.2 ∷ []) }
+        ensures hash1 { HasHash (⟦<T as Hashed<S>>⟧.hash1 self.now.builder) self.now.slots slot result.0 }
+        ensures hash2 { HasHash (⟦<T as Hashed<S>>⟧.hash2 self.now.builder) self.now.slots slot result.1 }
+        ensures hash3 { HasHash (⟦<T as Hashed<S>>⟧.hash3 self.now.builder) self.now.slots slot result.2 }
+    {
+        self.hashes_in(
+            slot,
+            found.0.hash_at(slot),
+            found.1.hash_at(slot),
+            found.2.hash_at(slot),
+        )
     }
 
     /// Puts an item into the slot `slot` of one that conflicts with it, and returns that one and another, which leaves
@@ -205,36 +251,23 @@ impl<T: TriHashItem, S: BuildHasher> TriHashMap<T, S> {
         ensures puts_at { PutsAt ⟦<T as Ranked>⟧.ranks self.old slot item
             (item ∷ contents (slice_set (slice_set self.old.slots other_slot None) slot None)) self.new }
         ensures costs { meter.new ≤ meter.old + walks_within (length (bag self.old))
-            (merge_two_walks (⟦<T as Hashed<S>>⟧.hash1 self.old.builder) found.now.0 other_slot result.0
-            ∷ merge_two_walks (⟦<T as Hashed<S>>⟧.hash2 self.old.builder) found.now.1 other_slot result.0
-            ∷ merge_two_walks (⟦<T as Hashed<S>>⟧.hash3 self.old.builder) found.now.2 other_slot result.0 ∷ []) }
+            (merge_two_walks (⟦<T as Hashed<S>>⟧.hash1 self.old.builder result.0) found.now.0 other_slot
+            ∷ merge_two_walks (⟦<T as Hashed<S>>⟧.hash2 self.old.builder result.0) found.now.1 other_slot
+            ∷ merge_two_walks (⟦<T as Hashed<S>>⟧.hash3 self.old.builder result.0) found.now.2 other_slot ∷ []) }
     {
         self.note_that_items_fit();
+        let (gone1, gone2, gone3) = self.hashes_found(slot, found);
+        let (other1, other2, other3) = self.hashes_found(other_slot, found);
         let Some(other) = self.items.remove(other_slot) else {
             unreachable!()
         };
         let gone = self.items.replace(slot, item);
-        self.first.merge_two::<T, First, S>(
-            &self.hash_builder,
-            (slot, &gone),
-            (other_slot, &other),
-            &found.0,
-            meter,
-        );
-        self.second.merge_two::<T, Second, S>(
-            &self.hash_builder,
-            (slot, &gone),
-            (other_slot, &other),
-            &found.1,
-            meter,
-        );
-        self.third.merge_two::<T, Third, S>(
-            &self.hash_builder,
-            (slot, &gone),
-            (other_slot, &other),
-            &found.2,
-            meter,
-        );
+        self.first
+            .merge_two((slot, gone1), (other_slot, other1), &found.0, meter);
+        self.second
+            .merge_two((slot, gone2), (other_slot, other2), &found.1, meter);
+        self.third
+            .merge_two((slot, gone3), (other_slot, other3), &found.2, meter);
         (gone, other)
     }
 }

@@ -23,7 +23,8 @@ returns-in_err-shrink_to-clause-reason g c =
 pub invariant_of-self-2 : goal.invariant_of-self-2
 invariant_of-self-2 g c =
     let same = contents-compact c.self.inside.items.slots c.shrink_to.new.self.slots c.in_ok-shrink_to.ensures.slots in
-    IsIndexed-move c.self.invariant same (c.fill.ensures.index, (c.fill-2.ensures.index, tt))
+    IsIndexed-move c.self.invariant same
+    (rw c.in_ok-shrink_to.ensures.slots c.fill_ahead.ensures.index, (rw c.in_ok-shrink_to.ensures.slots c.fill_ahead-2.ensures.index, tt))
 
 pub returns-clause-items : goal.returns-clause-items
 returns-clause-items g c = rw (← c.self.view_is) (contents-compact c.self.inside.items.slots c.shrink_to.new.self.slots c.in_ok-shrink_to.ensures.slots)
@@ -33,5 +34,15 @@ returns-clause-capacity g c =
     let all : length (bag c.args.self.now) ≡ live_count c.self.inside.items.slots = rw (← c.self.view_is) (length-contents c.self.inside.items.slots) in
     let within : c.args.self.now.capacity ≤ c.self.inside.items.capacity = rw (← c.self.view_is) (omega arith) in
     exact all c.requires.enough c.requires.shrinks within c.in_ok-shrink_to.ensures.capacity
-    (rw c.fill.ensures.limit (omega (arith, c.pairs_for.ensures.enough, c.in_ok-first.ensures.limit.enough)))
-    (rw c.fill-2.ensures.limit (omega (arith, c.pairs_for-2.ensures.enough, c.in_ok-second.ensures.limit.enough)))
+    (rw c.fill_ahead.ensures.limit (omega (arith, c.pairs_for.ensures.enough, c.in_ok-first.ensures.limit.enough)))
+    (rw c.fill_ahead-2.ensures.limit (omega (arith, c.pairs_for-2.ensures.enough, c.in_ok-second.ensures.limit.enough)))
+
+pub fill_ahead-requires-clause-room : goal.fill_ahead-requires-clause-room
+fill_ahead-requires-clause-room g c =
+    let all : length (bag c.args.self.now) ≡ live_count c.self.inside.items.slots = rw (← c.self.view_is) (length-contents c.self.inside.items.slots) in
+    omega (arith, all, c.requires.enough, c.pairs_for.ensures.enough, c.in_ok-first.ensures.limit.enough)
+
+pub fill_ahead-requires-2-clause-room : goal.fill_ahead-requires-2-clause-room
+fill_ahead-requires-2-clause-room g c =
+    let all : length (bag c.args.self.now) ≡ live_count c.self.inside.items.slots = rw (← c.self.view_is) (length-contents c.self.inside.items.slots) in
+    omega (arith, all, c.requires.enough, c.pairs_for-2.ensures.enough, c.in_ok-second.ensures.limit.enough)

@@ -6,20 +6,26 @@ use Rattle.iddqd_tri.proofs.MapLemmas.{AreLawful-ranks}
 use Rattle.iddqd_tri.proofs.map.TriHashMap.overwrite_one.Goals as goal
 
 pub rehash-requires : goal.rehash-requires
-rehash-requires g c = paired_at c.args.found.now.0 c.args.slot c.replace-gone.result c.self.invariant.indexes.0 (rw (← c.self.view_is) at c.requires.hashed).0 c.replace-gone.ensures.value
+rehash-requires g c =
+    paired_at c.args.slot c.replace-gone.result c.hashes_found-before1.result.0 c.self.invariant.indexes.0 (rw (← c.self.view_is) at c.hashes_found-before1.ensures.hash1) c.replace-gone.ensures.value
 
 pub rehash-requires-2 : goal.rehash-requires-2
-rehash-requires-2 g c = paired_at c.args.found.now.1 c.args.slot c.replace-gone.result c.self.invariant.indexes.1.0 (rw (← c.self.view_is) at c.requires.hashed).1.0 c.replace-gone.ensures.value
+rehash-requires-2 g c =
+    paired_at c.args.slot c.replace-gone.result c.hashes_found-before1.result.1 c.self.invariant.indexes.1.0 (rw (← c.self.view_is) at c.hashes_found-before1.ensures.hash2) c.replace-gone.ensures.value
 
 pub rehash-requires-3 : goal.rehash-requires-3
-rehash-requires-3 g c = paired_at c.args.found.now.2 c.args.slot c.replace-gone.result c.self.invariant.indexes.1.1.0 (rw (← c.self.view_is) at c.requires.hashed).1.1.0 c.replace-gone.ensures.value
+rehash-requires-3 g c =
+    paired_at c.args.slot c.replace-gone.result c.hashes_found-before1.result.2 c.self.invariant.indexes.1.1.0 (rw (← c.self.view_is) at c.hashes_found-before1.ensures.hash3) c.replace-gone.ensures.value
 
 pub invariant_of-self : goal.invariant_of-self
 invariant_of-self g c =
     let hashes = rw (← c.self.view_is) at c.requires.hashes in
-    let first = c.rehash.ensures.moved in
-    let second = c.rehash-2.ensures.moved in
-    let third = c.rehash-3.ensures.moved in
+    let one = rw (← c.self.view_is) at c.hashes_found-before1.ensures.hash1 c.replace-gone.result c.replace-gone.ensures.value in
+    let two = rw (← c.self.view_is) at c.hashes_found-before1.ensures.hash2 c.replace-gone.result c.replace-gone.ensures.value in
+    let three = rw (← c.self.view_is) at c.hashes_found-before1.ensures.hash3 c.replace-gone.result c.replace-gone.ensures.value in
+    let first = rw (← one, c.hash.ensures) at c.rehash.ensures.moved in
+    let second = rw (← two, c.hash-2.ensures) at c.rehash-2.ensures.moved in
+    let third = rw (← three, c.hash-3.ensures) at c.rehash-3.ensures.moved in
     rw c.replace-gone.ensures.slots
     (IsIndexed-displaced c.self.inside.items.slots c.args.slot [] _ [] c.args.item (c.replace-gone.ensures.value, tt)
     (AreLawful-ranks g.T.TriHashItem g.met.T.K1.Eq.laws g.met.T.K2.Eq.laws g.met.T.K3.Eq.laws) c.self.invariant (rw (← c.self.view_is) at c.requires.free)
@@ -34,5 +40,8 @@ returns-clause-puts_at g c =
 
 pub returns-clause-costs : goal.returns-clause-costs
 returns-clause-costs g c =
-    rw (← c.self.view_is) (walks_all (_ ∷ _ ∷ _ ∷ []) _ _ c.self.invariant
+    let one = c.hashes_found-before1.ensures.hash1 c.replace-gone.result (rw (← c.self.view_is) c.replace-gone.ensures.value) in
+    let two = c.hashes_found-before1.ensures.hash2 c.replace-gone.result (rw (← c.self.view_is) c.replace-gone.ensures.value) in
+    let three = c.hashes_found-before1.ensures.hash3 c.replace-gone.result (rw (← c.self.view_is) c.replace-gone.ensures.value) in
+    rw (one, two, three, ← c.hash.ensures, ← c.hash-2.ensures, ← c.hash-3.ensures, ← c.self.view_is) (walks_all (_ ∷ _ ∷ _ ∷ []) _ _ c.self.invariant
     (c.rehash.new.meter, c.rehash.ensures.costs, (c.rehash-2.new.meter, c.rehash-2.ensures.costs, (c.rehash-3.new.meter, c.rehash-3.ensures.costs, refl))))

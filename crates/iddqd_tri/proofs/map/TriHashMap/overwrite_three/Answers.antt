@@ -1,42 +1,84 @@
 -- Written by hand; tests/three_keys.patch says why.
 use Rattle.std.proofs.Common.{rules, refl, sym, ◌∙◌, [], ◌∷◌}
-use Rattle.iddqd_store.proofs.RankLemmas.Displaced.{IsIndexed-displaced, PutsAt-displaced, paired_each}
+use Rattle.iddqd_store.proofs.RankLemmas.Displaced.{IsIndexed-displaced, PutsAt-displaced, paired_at, same_hash, was_there}
 use Rattle.iddqd_store.proofs.RankLemmas.Walks.{walks_all}
 use Rattle.iddqd_tri.proofs.MapLemmas.{AreLawful-ranks}
 use Rattle.iddqd_tri.proofs.map.TriHashMap.overwrite_three.Goals as goal
 
 pub merge_three-requires : goal.merge_three-requires
 merge_three-requires g c =
-    let one = rw (c.in-Some-remove.ensures.taken.slots, c.in-Some.ensures.taken.slots) at c.replace-gone.ensures.value in
-    let two = rw c.in-Some.ensures.taken.slots at (sym c.remove-2.ensures.value ∙ c.in-Some-remove.is) in
-    let paired = paired_each c.args.found.now.0 (c.args.slots.0 ∷ c.args.slots.1 ∷ c.args.slots.2 ∷ []) (c.replace-gone.result ∷ c.in-Some-remove.other ∷ c.in-Some.last ∷ [])
-    c.self.invariant.indexes.0 (rw (← c.self.view_is) at c.requires.hashed).0 (one, (two, (sym c.remove.ensures.value ∙ c.in-Some.is, tt))) in
-    record { apart = c.requires.apart; gone = paired.0; other = paired.1.0; last = paired.1.1.0 }
+    let gone = was_there c.self.inside.items.slots (c.args.slots.1 ∷ c.args.slots.2 ∷ []) c.args.slots.0 c.replace-gone.result (rw (c.in-Some-remove.ensures.taken.slots, c.in-Some.ensures.taken.slots) at c.replace-gone.ensures.value) in
+    let other = was_there c.self.inside.items.slots (c.args.slots.2 ∷ []) c.args.slots.1 c.in-Some-remove.other (rw c.in-Some.ensures.taken.slots at (sym c.remove-2.ensures.value ∙ c.in-Some-remove.is)) in
+    let last = sym c.remove.ensures.value ∙ c.in-Some.is in
+    let has_other = rw (← c.self.view_is) at c.hashes_found-other1.ensures.hash1 in
+    let has_last = rw (← c.self.view_is) at c.hashes_found-last1.ensures.hash1 in
+    record {
+      apart = c.requires.apart;
+      gone = paired_at c.args.slots.0 c.replace-gone.result c.hashes_found-gone1.result.0 c.self.invariant.indexes.0 (rw (← c.self.view_is) at c.hashes_found-gone1.ensures.hash1) gone;
+      other = paired_at c.args.slots.1 c.in-Some-remove.other c.hashes_found-other1.result.0 c.self.invariant.indexes.0 has_other other;
+      last = paired_at c.args.slots.2 c.in-Some.last c.hashes_found-last1.result.0 c.self.invariant.indexes.0 has_last last;
+      known = (
+        same_hash _ _ c.args.found.now.0 c.args.slots.1 c.in-Some-remove.other c.hashes_found-other1.result.0 (rw (← c.self.view_is) at c.requires.hashed).0 has_other other,
+        same_hash _ _ c.args.found.now.0 c.args.slots.2 c.in-Some.last c.hashes_found-last1.result.0 (rw (← c.self.view_is) at c.requires.hashed).0 has_last last,
+      );
+    }
 
 pub merge_three-requires-2 : goal.merge_three-requires-2
 merge_three-requires-2 g c =
-    let one = rw (c.in-Some-remove.ensures.taken.slots, c.in-Some.ensures.taken.slots) at c.replace-gone.ensures.value in
-    let two = rw c.in-Some.ensures.taken.slots at (sym c.remove-2.ensures.value ∙ c.in-Some-remove.is) in
-    let paired = paired_each c.args.found.now.1 (c.args.slots.0 ∷ c.args.slots.1 ∷ c.args.slots.2 ∷ []) (c.replace-gone.result ∷ c.in-Some-remove.other ∷ c.in-Some.last ∷ [])
-    c.self.invariant.indexes.1.0 (rw (← c.self.view_is) at c.requires.hashed).1.0 (one, (two, (sym c.remove.ensures.value ∙ c.in-Some.is, tt))) in
-    record { apart = c.requires.apart; gone = paired.0; other = paired.1.0; last = paired.1.1.0 }
+    let gone = was_there c.self.inside.items.slots (c.args.slots.1 ∷ c.args.slots.2 ∷ []) c.args.slots.0 c.replace-gone.result (rw (c.in-Some-remove.ensures.taken.slots, c.in-Some.ensures.taken.slots) at c.replace-gone.ensures.value) in
+    let other = was_there c.self.inside.items.slots (c.args.slots.2 ∷ []) c.args.slots.1 c.in-Some-remove.other (rw c.in-Some.ensures.taken.slots at (sym c.remove-2.ensures.value ∙ c.in-Some-remove.is)) in
+    let last = sym c.remove.ensures.value ∙ c.in-Some.is in
+    let has_other = rw (← c.self.view_is) at c.hashes_found-other1.ensures.hash2 in
+    let has_last = rw (← c.self.view_is) at c.hashes_found-last1.ensures.hash2 in
+    record {
+      apart = c.requires.apart;
+      gone = paired_at c.args.slots.0 c.replace-gone.result c.hashes_found-gone1.result.1 c.self.invariant.indexes.1.0 (rw (← c.self.view_is) at c.hashes_found-gone1.ensures.hash2) gone;
+      other = paired_at c.args.slots.1 c.in-Some-remove.other c.hashes_found-other1.result.1 c.self.invariant.indexes.1.0 has_other other;
+      last = paired_at c.args.slots.2 c.in-Some.last c.hashes_found-last1.result.1 c.self.invariant.indexes.1.0 has_last last;
+      known = (
+        same_hash _ _ c.args.found.now.1 c.args.slots.1 c.in-Some-remove.other c.hashes_found-other1.result.1 (rw (← c.self.view_is) at c.requires.hashed).1.0 has_other other,
+        same_hash _ _ c.args.found.now.1 c.args.slots.2 c.in-Some.last c.hashes_found-last1.result.1 (rw (← c.self.view_is) at c.requires.hashed).1.0 has_last last,
+      );
+    }
 
 pub merge_three-requires-3 : goal.merge_three-requires-3
 merge_three-requires-3 g c =
-    let one = rw (c.in-Some-remove.ensures.taken.slots, c.in-Some.ensures.taken.slots) at c.replace-gone.ensures.value in
-    let two = rw c.in-Some.ensures.taken.slots at (sym c.remove-2.ensures.value ∙ c.in-Some-remove.is) in
-    let paired = paired_each c.args.found.now.2 (c.args.slots.0 ∷ c.args.slots.1 ∷ c.args.slots.2 ∷ []) (c.replace-gone.result ∷ c.in-Some-remove.other ∷ c.in-Some.last ∷ [])
-    c.self.invariant.indexes.1.1.0 (rw (← c.self.view_is) at c.requires.hashed).1.1.0 (one, (two, (sym c.remove.ensures.value ∙ c.in-Some.is, tt))) in
-    record { apart = c.requires.apart; gone = paired.0; other = paired.1.0; last = paired.1.1.0 }
+    let gone = was_there c.self.inside.items.slots (c.args.slots.1 ∷ c.args.slots.2 ∷ []) c.args.slots.0 c.replace-gone.result (rw (c.in-Some-remove.ensures.taken.slots, c.in-Some.ensures.taken.slots) at c.replace-gone.ensures.value) in
+    let other = was_there c.self.inside.items.slots (c.args.slots.2 ∷ []) c.args.slots.1 c.in-Some-remove.other (rw c.in-Some.ensures.taken.slots at (sym c.remove-2.ensures.value ∙ c.in-Some-remove.is)) in
+    let last = sym c.remove.ensures.value ∙ c.in-Some.is in
+    let has_other = rw (← c.self.view_is) at c.hashes_found-other1.ensures.hash3 in
+    let has_last = rw (← c.self.view_is) at c.hashes_found-last1.ensures.hash3 in
+    record {
+      apart = c.requires.apart;
+      gone = paired_at c.args.slots.0 c.replace-gone.result c.hashes_found-gone1.result.2 c.self.invariant.indexes.1.1.0 (rw (← c.self.view_is) at c.hashes_found-gone1.ensures.hash3) gone;
+      other = paired_at c.args.slots.1 c.in-Some-remove.other c.hashes_found-other1.result.2 c.self.invariant.indexes.1.1.0 has_other other;
+      last = paired_at c.args.slots.2 c.in-Some.last c.hashes_found-last1.result.2 c.self.invariant.indexes.1.1.0 has_last last;
+      known = (
+        same_hash _ _ c.args.found.now.2 c.args.slots.1 c.in-Some-remove.other c.hashes_found-other1.result.2 (rw (← c.self.view_is) at c.requires.hashed).1.1.0 has_other other,
+        same_hash _ _ c.args.found.now.2 c.args.slots.2 c.in-Some.last c.hashes_found-last1.result.2 (rw (← c.self.view_is) at c.requires.hashed).1.1.0 has_last last,
+      );
+    }
 
 pub invariant_of-self : goal.invariant_of-self
 invariant_of-self g c =
     let one = rw (c.in-Some-remove.ensures.taken.slots, c.in-Some.ensures.taken.slots) at c.replace-gone.ensures.value in
     let two = rw c.in-Some.ensures.taken.slots at (sym c.remove-2.ensures.value ∙ c.in-Some-remove.is) in
     let hashes = rw (← c.self.view_is) at c.requires.hashes in
-    let first = c.merge_three.ensures.replaced in
-    let second = c.merge_three-2.ensures.replaced in
-    let third = c.merge_three-3.ensures.replaced in
+    let gone = was_there c.self.inside.items.slots (c.args.slots.1 ∷ c.args.slots.2 ∷ []) c.args.slots.0 c.replace-gone.result (rw (c.in-Some-remove.ensures.taken.slots, c.in-Some.ensures.taken.slots) at c.replace-gone.ensures.value) in
+    let was_other = was_there c.self.inside.items.slots (c.args.slots.2 ∷ []) c.args.slots.1 c.in-Some-remove.other (rw c.in-Some.ensures.taken.slots at (sym c.remove-2.ensures.value ∙ c.in-Some-remove.is)) in
+    let last = sym c.remove.ensures.value ∙ c.in-Some.is in
+    let gone1 = rw (← c.self.view_is) at c.hashes_found-gone1.ensures.hash1 c.replace-gone.result gone in
+    let other1 = rw (← c.self.view_is) at c.hashes_found-other1.ensures.hash1 c.in-Some-remove.other was_other in
+    let last1 = rw (← c.self.view_is) at c.hashes_found-last1.ensures.hash1 c.in-Some.last last in
+    let gone2 = rw (← c.self.view_is) at c.hashes_found-gone1.ensures.hash2 c.replace-gone.result gone in
+    let other2 = rw (← c.self.view_is) at c.hashes_found-other1.ensures.hash2 c.in-Some-remove.other was_other in
+    let last2 = rw (← c.self.view_is) at c.hashes_found-last1.ensures.hash2 c.in-Some.last last in
+    let gone3 = rw (← c.self.view_is) at c.hashes_found-gone1.ensures.hash3 c.replace-gone.result gone in
+    let other3 = rw (← c.self.view_is) at c.hashes_found-other1.ensures.hash3 c.in-Some-remove.other was_other in
+    let last3 = rw (← c.self.view_is) at c.hashes_found-last1.ensures.hash3 c.in-Some.last last in
+    let first = rw (← gone1, ← other1, ← last1) at c.merge_three.ensures.replaced in
+    let second = rw (← gone2, ← other2, ← last2) at c.merge_three-2.ensures.replaced in
+    let third = rw (← gone3, ← other3, ← last3) at c.merge_three-3.ensures.replaced in
     rw (c.replace-gone.ensures.slots, c.in-Some-remove.ensures.taken.slots, c.in-Some.ensures.taken.slots)
     (IsIndexed-displaced c.self.inside.items.slots c.args.slots.0
     (c.args.slots.1 ∷ c.args.slots.2 ∷ []) _ (c.in-Some-remove.other ∷ c.in-Some.last ∷ []) c.args.item (one, (two, (sym c.remove.ensures.value ∙ c.in-Some.is, tt)))
@@ -56,5 +98,9 @@ returns-clause-puts_at g c =
 
 pub returns-clause-costs : goal.returns-clause-costs
 returns-clause-costs g c =
-    rw (← c.self.view_is) (walks_all (_ ∷ _ ∷ _ ∷ []) _ _ c.self.invariant
+    let gone = was_there c.self.inside.items.slots (c.args.slots.1 ∷ c.args.slots.2 ∷ []) c.args.slots.0 c.replace-gone.result (rw (c.in-Some-remove.ensures.taken.slots, c.in-Some.ensures.taken.slots) at c.replace-gone.ensures.value) in
+    let gone1 = c.hashes_found-gone1.ensures.hash1 c.replace-gone.result (rw (← c.self.view_is) gone) in
+    let gone2 = c.hashes_found-gone1.ensures.hash2 c.replace-gone.result (rw (← c.self.view_is) gone) in
+    let gone3 = c.hashes_found-gone1.ensures.hash3 c.replace-gone.result (rw (← c.self.view_is) gone) in
+    rw (gone1, gone2, gone3, ← c.self.view_is) (walks_all (_ ∷ _ ∷ _ ∷ []) _ _ c.self.invariant
     (c.merge_three.new.meter, c.merge_three.ensures.costs, (c.merge_three-2.new.meter, c.merge_three-2.ensures.costs, (c.merge_three-3.new.meter, c.merge_three-3.ensures.costs, refl))))

@@ -10,7 +10,6 @@ ghost use Rattle.iddqd_store.specs.Slots.{get, contents, IsLive};
 
 use crate::item::{Hashed, Ranked, TriHashItem};
 use crate::map::TriHashMap;
-use crate::ranks::{First, Second, Third};
 use iddqd_store::{FoundByHash, ItemIndex, Meter};
 use std::hash::{BuildHasher, Hash};
 
@@ -38,12 +37,15 @@ impl<T: TriHashItem, S: BuildHasher> TriHashMap<T, S> {
         ensures puts_at { PutsAt ⟦<T as Ranked>⟧.ranks self.old slots.0 item (item ∷ contents
             (slice_set (slice_set (slice_set self.old.slots slots.2 None) slots.1 None) slots.0 None)) self.new }
         ensures costs { meter.new ≤ meter.old + walks_within (length (bag self.old))
-            (merge_three_walks (⟦<T as Hashed<S>>⟧.hash1 self.old.builder) found.now.0 slots.1 slots.2 result.0
-            ∷ merge_three_walks (⟦<T as Hashed<S>>⟧.hash2 self.old.builder) found.now.1 slots.1 slots.2 result.0
-            ∷ merge_three_walks (⟦<T as Hashed<S>>⟧.hash3 self.old.builder) found.now.2 slots.1 slots.2 result.0 ∷ []) }
+            (merge_three_walks (⟦<T as Hashed<S>>⟧.hash1 self.old.builder result.0) found.now.0 slots.1 slots.2
+            ∷ merge_three_walks (⟦<T as Hashed<S>>⟧.hash2 self.old.builder result.0) found.now.1 slots.1 slots.2
+            ∷ merge_three_walks (⟦<T as Hashed<S>>⟧.hash3 self.old.builder result.0) found.now.2 slots.1 slots.2 ∷ []) }
     {
         self.note_that_items_fit();
         let (slot, other_slot, last_slot) = slots;
+        let (gone1, gone2, gone3) = self.hashes_found(slot, found);
+        let (other1, other2, other3) = self.hashes_found(other_slot, found);
+        let (last1, last2, last3) = self.hashes_found(last_slot, found);
         let Some(last) = self.items.remove(last_slot) else {
             unreachable!()
         };
@@ -51,27 +53,24 @@ impl<T: TriHashItem, S: BuildHasher> TriHashMap<T, S> {
             unreachable!()
         };
         let gone = self.items.replace(slot, item);
-        self.first.merge_three::<T, First, S>(
-            &self.hash_builder,
-            (slot, &gone),
-            (other_slot, &other),
-            (last_slot, &last),
+        self.first.merge_three(
+            (slot, gone1),
+            (other_slot, other1),
+            (last_slot, last1),
             &found.0,
             meter,
         );
-        self.second.merge_three::<T, Second, S>(
-            &self.hash_builder,
-            (slot, &gone),
-            (other_slot, &other),
-            (last_slot, &last),
+        self.second.merge_three(
+            (slot, gone2),
+            (other_slot, other2),
+            (last_slot, last2),
             &found.1,
             meter,
         );
-        self.third.merge_three::<T, Third, S>(
-            &self.hash_builder,
-            (slot, &gone),
-            (other_slot, &other),
-            (last_slot, &last),
+        self.third.merge_three(
+            (slot, gone3),
+            (other_slot, other3),
+            (last_slot, last3),
             &found.2,
             meter,
         );
