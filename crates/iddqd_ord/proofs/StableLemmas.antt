@@ -203,4 +203,5 @@ module _ {T Key : Type 0} (of : item.Ghosts T Key) (cmp : Key → Key → Orderi
     fits = done.fits;
     no_less_room = done.no_less_room;
     same_room = λ room. done.same_room (omega (arith, long, room));
+    most = omega (arith, done.most, long);
   }

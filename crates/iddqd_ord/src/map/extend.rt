@@ -4,7 +4,7 @@ ghost use Rattle.std.specs.Iterator.{IsFiniteIterable};
 ghost use Rattle.std.specs.List.{list_any};
 ghost use Rattle.iddqd_store.specs.Bag.Building.{GivesAll, GivesThen, FitsOn};
 ghost use Rattle.iddqd_ord.specs.Extensions.{ExtendsTo, with_items};
-ghost use Rattle.iddqd_ord.specs.Items.{items, has_key_of, IsFullFor};
+ghost use Rattle.iddqd_ord.specs.Items.{items, has_key_of, most_extended, IsFullFor};
 
 use super::IdOrdMap;
 use crate::item::IdOrdItem;
@@ -58,6 +58,9 @@ impl<T: IdOrdItem + Drop> IdOrdMap<T> {
         ensures all { IfOk result (λ map. GivesAll I.into_iter_gives I.IntoIter.next_gives iter (λ xs.
             items map ≡ with_items T.IdOrdItem T.Key.cmp [] xs)) }
         ensures fits { IfOk result (λ map. length (items map) ≤ map.capacity) }
+        // Whatever the iterator promises, the capacity has a bound by what it gave.
+        ensures most { IfOk result (λ map. GivesAll I.into_iter_gives I.IntoIter.next_gives iter (λ xs.
+            map.capacity ≤ most_extended 0 (length xs))) }
         ensures refused { IfErr result (λ e. GivesThen I.into_iter_gives I.IntoIter.next_gives iter e.value (λ xs.
             list_any (has_key_of T.IdOrdItem T.Key.cmp e.value) (with_items T.IdOrdItem T.Key.cmp [] xs) ≡ false)) }
     {

@@ -37,6 +37,7 @@ impl<T: IdOrdItem + Drop> IdOrdMap<T> {
             (AddsTo T.IdOrdItem T.Key.cmp [] (items map))) }
         ensures ascending { IfOk result (λ map. IsAscending T.Key.cmp T.key (items map)) }
         ensures fits { IfOk result (λ map. length (items map) ≤ map.capacity) }
+        ensures most { IfOk result (λ map. map.capacity ≤ most_extended 0 (length (items map))) }
         // The error has the first item that could not be inserted, and why.
         ensures refused { IfErr result (λ e. MatchFromIterError e
             (λ x duplicate. GivesThen I.into_iter_gives I.IntoIter.next_gives iter x

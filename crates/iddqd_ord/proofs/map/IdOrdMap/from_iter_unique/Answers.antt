@@ -1,5 +1,6 @@
 use Rattle.std.proofs.Common.{[], rules, refl, length, sym, ap, ◌∙◌, arith}
 use Rattle.std.proofs.lemmas.List.Sorted.{IsPermutation-refl}
+use Rattle.iddqd_store.proofs.Plain.{by_order}
 use Rattle.iddqd_ord.specs.Items.{items, with_item}
 use Rattle.iddqd_ord.proofs.InsertLemmas.{IsPermutation-added}
 use Rattle.iddqd_ord.proofs.ExtendLemmas.{fold-push}
@@ -13,6 +14,7 @@ loop-item-init g c = record {
   added = rw c.new-map.ensures.empty record { lists = refl; all = IsPermutation-refl [] };
   ascending = rw c.new-map.ensures.empty (λ i j d lt in_range. absurd (omega (arith, in_range)));
   fits = omega (arith, ap length c.new-map.ensures.empty);
+  most = omega (arith, c.new-map.ensures.capacity);
 }
 
 pub loop-item-preserved : goal.loop-item-preserved
@@ -31,6 +33,9 @@ loop-item-preserved g c =
       };
       ascending = c.in_default.ensures.ascending;
       fits = gains.fits;
+      most = by_order (length (items at.map)) at.map.capacity
+          (λ spare. omega (arith, at.invariant.most, gains.same_room spare, gains.more))
+          (λ full. omega (arith, gains.most, full, gains.more));
     }
 
 pub returns-in-Ok-clause-refused : goal.returns-in-Ok-clause-refused
