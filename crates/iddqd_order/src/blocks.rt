@@ -202,6 +202,9 @@ impl<E> Blocks<E> {
         requires ordered { IsSearchable (C.order sought.now) (entries_in self.now) }
         ensures place { IfSome result (IsPlace self.now.blocks) }
         ensures gap { IfSome result (λ p. IsSplit (C.order sought.now) (entries_in self.now) (position self.now.blocks p) 0) }
+        // Where it returns none, there are no entries, or their end is not the place of what is sought.
+        ensures none { IfNone result (0 < length (entries_in self.now)
+            → IsSplit (C.order sought.now) (entries_in self.now) (length (entries_in self.now)) 0 → ⊥) }
         ensures asked { meter.new ≤ meter.old + 1 }
     {
         search::behind_last(&self.row, sought, meter)

@@ -1,5 +1,5 @@
 //! Searches in four parts, and how they compare entries.
-ghost use Rattle.std.specs.Prelude.{◌≡◌, ℕ, ◌+◌, ◌-◌, ◌*◌, ◌^◌, ◌<◌, ◌≤◌, length, true, false, All, slice_get, IfOk, IfErr, IfSome};
+ghost use Rattle.std.specs.Prelude.{◌≡◌, ℕ, ◌+◌, ◌-◌, ◌*◌, ◌^◌, ◌<◌, ◌≤◌, length, true, false, All, slice_get, IfOk, IfErr, IfSome, IfNone};
 ghost use Rattle.std.specs.Ordering.{is_gt};
 ghost use Rattle.std.specs.declared.cmp.Ordering.{Ordering};
 ghost use Rattle.iddqd_order.specs.Search.{IsPartitionPoint, IsSearchable, IsLastEqual, IsSplit, order_at};
@@ -183,6 +183,8 @@ pub(crate) fn behind_last<E, C: Compare<E>>(
     requires ordered { IsSearchable (C.order sought.now) (line row.now.blocks) }
     ensures place { IfSome result (IsPlace row.now.blocks) }
     ensures gap { IfSome result (λ p. IsSplit (C.order sought.now) (line row.now.blocks) (position row.now.blocks p) 0) }
+    ensures none { IfNone result (0 < length (line row.now.blocks)
+        → IsSplit (C.order sought.now) (line row.now.blocks) (length (line row.now.blocks)) 0 → ⊥) }
     ensures asked { meter.new ≤ meter.old + 1 }
 {
     let blocks = row.len();
