@@ -148,6 +148,7 @@ pub trait SlotMap {
     fn remove_at(&mut self, slot: ItemIndex, meter: &mut Meter) -> Self::Item
         requires { IsLive (shown self.old).slots slot }
         ensures value { get (shown self.old).slots slot ≡ Some result }
+        ensures slots { (shown self.new).slots ≡ slice_set (shown self.old).slots slot None }
         ensures loses { Loses (shown self.old) (result ∷ []) (shown self.new) }
         ensures updates { Updates (shown self.old).slots (shown self.new).slots slot None }
         ensures costs { meter.new ≤ meter.old + walks_within (length (bag (shown self.old))) (map (λ _. 1) ranks) };

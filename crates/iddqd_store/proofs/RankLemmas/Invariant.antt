@@ -93,15 +93,6 @@ module _ {T : Type 0} where
       → IsIndexed ranks hashes old tables → contents new ≡ contents old → AreIndexes hashes new others → IsIndexed ranks hashes new others
   IsIndexed-move indexed same indexes = record { sound = rw same indexed.sound; indexes = indexes }
 
-  -- some of the items leave, and tables that index the others
-  pub IsIndexed-left : {ranks : Ranks T} {hashes : List (T → ℕ)} {old new : List (Option T)} {tables others : List (List (ℕ × ℕ))} (taken : List T)
-      → AreLawful ranks → IsIndexed ranks hashes old tables → IsPermutation (contents old) (taken ++ contents new) → AreIndexes hashes new others
-      → IsIndexed ranks hashes new others
-  IsIndexed-left {ranks = ranks} {old = old} {new = new} taken laws indexed left indexes = record {
-    sound = sound_left ranks laws (contents old) taken (contents new) indexed.sound left;
-    indexes = indexes;
-  }
-
   -- clones of the members hash as they do
   abbrev pub IsAlike : (T → T → Type 0) → List (Option T) → (T → ℕ) → (T → ℕ) → Type 0
   IsAlike is_clone slots hash other = (x c : T) → Contains (contents slots) x → is_clone x c → other c ≡ hash x

@@ -122,23 +122,3 @@ impl<T: Drop> Batch<T> {
         Ok(())
     }
 }
-
-impl<T> ItemSet<T> {
-    /// Removes the items of the slots that were noted, in their order. It allocates nothing.
-    pub fn remove_batch(&mut self, batch: Batch<T>) -> Vec<T>
-        requires live { All (IsLive self.old.slots) batch.slots }
-        requires apart { IsDistinct nat_eq batch.slots }
-        ensures values { result.items ≡ items_at self.old.slots batch.slots }
-        ensures left { IsPermutation (contents self.old.slots) (result.items ++ contents self.new.slots) }
-        ensures capacity { self.new.capacity ≡ self.old.capacity }
-    {
-        let (slots, mut items) = batch.into_parts();
-        for index in 0..slots.len() {
-            match self.remove(slots[index]) {
-                Some(item) => items.push_reserved(item),
-                None => unreachable!(),
-            }
-        }
-        items
-    }
-}

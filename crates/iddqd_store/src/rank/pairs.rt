@@ -16,27 +16,9 @@ use crate::item_set::{ItemIndex, ItemSet};
 use std::hash::{BuildHasher, Hash};
 
 impl<T> ItemSet<T> {
-    /// Inserts the pair of each live slot into an empty table: the hash of its item's key, and its number. The table
-    /// has to have the capacity for them, so this allocates nothing. It hashes each key once, and compares none.
-    pub fn fill<R: KeyOf<T>, S: BuildHasher>(&self, table: &mut IndexTable, hash_builder: &S)
-        requires empty { table.old.pairs ≡ [] }
-        requires room { live_count self.now.slots ≤ table.old.limit }
-        ensures index { IsIndex (⟦<R as HashedKey<T, S>>⟧.hash hash_builder.now) self.now.slots table.new.pairs }
-        ensures cells { length table.new.row ≡ length table.old.row }
-        ensures limit { table.new.limit ≡ table.old.limit }
-    {
-        let mut meter = Meter::new();
-        for index in 0..self.slot_count() {
-            let slot = ItemIndex::new(index);
-            if let Some(item) = self.get(slot) {
-                let hash = hash_builder.hash_one(R::key(item));
-                table.insert_reserved(hash, slot, &mut meter);
-            }
-        }
-    }
-
-    /// Inserts the pair of each item into an empty table as `fill` does, but by the number that its slot has once the set
-    /// is compacted. So every key is hashed before an item moves.
+    /// Inserts the pair of each item into an empty table: the hash of its key, and the number that its slot has once the set
+    /// is compacted. So every key is hashed before an item moves. The table has to have the capacity for them, so this
+    /// allocates nothing. It hashes each key once, and compares none.
     pub fn fill_ahead<R: KeyOf<T>, S: BuildHasher>(&self, table: &mut IndexTable, hash_builder: &S)
         requires empty { table.old.pairs ≡ [] }
         requires room { live_count self.now.slots ≤ table.old.limit }

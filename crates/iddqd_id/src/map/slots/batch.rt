@@ -57,23 +57,10 @@ impl<T: IdHashItem, S: BuildHasher> IdHashMap<T, S> {
         Ok(())
     }
 
-    /// Removes the inserted items again, in the order in which they were inserted. The call allocates no memory, and
-    /// compares no key.
+    /// Removes the inserted items again, in the order in which they were inserted. It hashes the key of each of them
+    /// once, compares none, and allocates no memory.
+    // The keys of an item are hashed before it is removed, so if the caller's code panics there, the map is whole.
     pub(crate) fn remove_batch(&mut self, batch: Batch<T>) -> Vec<T>
-        requires live { All (IsLive self.old.slots) batch.slots }
-        requires apart { IsDistinct nat_eq batch.slots }
-        ensures values { result.items ≡ items_at self.old.slots batch.slots }
-        ensures loses { Loses self.old result.items self.new }
-    {
-        if batch.len() > self.items.len() / 2 {
-            self.remove_and_refill(batch)
-        } else {
-            self.remove_one_by_one(batch)
-        }
-    }
-
-    /// Removes these items. It hashes the key of each of them once.
-    fn remove_one_by_one(&mut self, batch: Batch<T>) -> Vec<T>
         requires live { All (IsLive self.old.slots) batch.slots }
         requires apart { IsDistinct nat_eq batch.slots }
         ensures values { result.items ≡ items_at self.old.slots batch.slots }
@@ -83,22 +70,6 @@ impl<T: IdHashItem, S: BuildHasher> IdHashMap<T, S> {
         for index in 0..slots.len() {
             items.push_reserved(self.remove_at(slots[index]));
         }
-        items
-    }
-
-    /// Removes these items from their slots, and enters those that are left into emptied tables. It hashes the key of
-    /// each of those once. So no table is searched, and where most items leave, fewer keys are hashed.
-    fn remove_and_refill(&mut self, batch: Batch<T>) -> Vec<T>
-        requires live { All (IsLive self.old.slots) batch.slots }
-        requires apart { IsDistinct nat_eq batch.slots }
-        ensures values { result.items ≡ items_at self.old.slots batch.slots }
-        ensures loses { Loses self.old result.items self.new }
-    {
-        self.note_that_items_fit();
-        let items = self.items.remove_batch(batch);
-        self.first.clear();
-        self.items
-            .fill::<First, S>(&mut self.first, &self.hash_builder);
         items
     }
 }

@@ -69,23 +69,10 @@ impl<T: TriHashItem, S: BuildHasher> TriHashMap<T, S> {
         Ok(())
     }
 
-    /// Removes the inserted items again, in the order in which they were inserted. The call allocates no memory, and
-    /// compares no key.
+    /// Removes the inserted items again, in the order in which they were inserted. It hashes each key of them once,
+    /// compares none, and allocates no memory.
+    // The keys of an item are hashed before it is removed, so if the caller's code panics there, the map is whole.
     pub(crate) fn remove_batch(&mut self, batch: Batch<T>) -> Vec<T>
-        requires live { All (IsLive self.old.slots) batch.slots }
-        requires apart { IsDistinct nat_eq batch.slots }
-        ensures values { result.items ≡ items_at self.old.slots batch.slots }
-        ensures loses { Loses self.old result.items self.new }
-    {
-        if batch.len() > self.items.len() / 2 {
-            self.remove_and_refill(batch)
-        } else {
-            self.remove_one_by_one(batch)
-        }
-    }
-
-    /// Removes these items. It hashes each key of them once.
-    fn remove_one_by_one(&mut self, batch: Batch<T>) -> Vec<T>
         requires live { All (IsLive self.old.slots) batch.slots }
         requires apart { IsDistinct nat_eq batch.slots }
         ensures values { result.items ≡ items_at self.old.slots batch.slots }
@@ -95,28 +82,6 @@ impl<T: TriHashItem, S: BuildHasher> TriHashMap<T, S> {
         for index in 0..slots.len() {
             items.push_reserved(self.remove_at(slots[index]));
         }
-        items
-    }
-
-    /// Removes these items from their slots, and enters those that are left into emptied tables. It hashes each key of
-    /// those once. So no table is searched, and where most items leave, fewer keys are hashed.
-    fn remove_and_refill(&mut self, batch: Batch<T>) -> Vec<T>
-        requires live { All (IsLive self.old.slots) batch.slots }
-        requires apart { IsDistinct nat_eq batch.slots }
-        ensures values { result.items ≡ items_at self.old.slots batch.slots }
-        ensures loses { Loses self.old result.items self.new }
-    {
-        self.note_that_items_fit();
-        let items = self.items.remove_batch(batch);
-        self.first.clear();
-        self.second.clear();
-        self.third.clear();
-        self.items
-            .fill::<First, S>(&mut self.first, &self.hash_builder);
-        self.items
-            .fill::<Second, S>(&mut self.second, &self.hash_builder);
-        self.items
-            .fill::<Third, S>(&mut self.third, &self.hash_builder);
         items
     }
 }

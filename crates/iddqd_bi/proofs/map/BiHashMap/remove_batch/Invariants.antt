@@ -1,7 +1,7 @@
 use Rattle.std.proofs.Common.{◌≡◌, ◌≤◌, length, drop}
 use Rattle.std.specs.Prelude.{vec_capacity}
 use Rattle.iddqd_store.proofs.MapLemmas.Removing.{LeavesInTurn}
-use Rattle.iddqd_bi.proofs.map.BiHashMap.remove_one_by_one.Given as goal
+use Rattle.iddqd_bi.proofs.map.BiHashMap.remove_batch.Given as goal
 
 abbrev pub invariant-loop-index : goal.invariant-loop-index
 invariant-loop-index g l = record {

@@ -1,10 +1,9 @@
--- Made by tests/widths from crates/iddqd_bi/proofs/map/BiHashMap/remove_one_by_one/Answers.antt: change that file.
 use Rattle.std.proofs.Common.{◌≡◌, arith, length, rules}
 use Rattle.std.proofs.lemmas.List.{length_push}
 use Rattle.std.proofs.lemmas.Option.{slice_get_read}
 use Rattle.iddqd_store.proofs.BagLemmas.Over.{drop-found}
 use Rattle.iddqd_store.proofs.MapLemmas.Removing.{next_leaves, next_live, none_left}
-use Rattle.iddqd_tri.proofs.map.TriHashMap.remove_one_by_one.Goals as goal
+use Rattle.iddqd_bi.proofs.map.BiHashMap.remove_batch.Goals as goal
 
 pub remove_at-requires : goal.remove_at-requires
 remove_at-requires g c =

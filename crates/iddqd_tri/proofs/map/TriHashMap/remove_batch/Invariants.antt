@@ -1,8 +1,8 @@
--- Made by tests/widths from crates/iddqd_bi/proofs/map/BiHashMap/remove_one_by_one/Invariants.antt: change that file.
+-- Made by tests/widths from crates/iddqd_bi/proofs/map/BiHashMap/remove_batch/Invariants.antt: change that file.
 use Rattle.std.proofs.Common.{◌≡◌, ◌≤◌, length, drop}
 use Rattle.std.specs.Prelude.{vec_capacity}
 use Rattle.iddqd_store.proofs.MapLemmas.Removing.{LeavesInTurn}
-use Rattle.iddqd_id.proofs.map.IdHashMap.remove_one_by_one.Given as goal
+use Rattle.iddqd_tri.proofs.map.TriHashMap.remove_batch.Given as goal
 
 abbrev pub invariant-loop-index : goal.invariant-loop-index
 invariant-loop-index g l = record {
