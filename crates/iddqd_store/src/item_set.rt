@@ -363,9 +363,9 @@ impl<T> ItemSet<T> {
         ensures slots { self.new.slots ≡ [] }
         ensures capacity { self.new.capacity ≡ self.old.capacity }
     {
-        self.slots.clear();
         self.live = 0;
         self.next_free = 0;
         self.lowest = 0;
+        self.slots.clear();
     }
 }

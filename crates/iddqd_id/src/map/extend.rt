@@ -66,12 +66,12 @@ impl<T: Ranked + Drop, S: BuildHasher> IdHashMap<T, S> {
     /// these in order, that item, and whether its key is taken. The rest are dropped with the iterator. If it is
     /// not, there was no memory; an item that conflicts is refused for that, whether there is memory or not.
     ///
-    /// To insert an item, the call hashes its key once, and searches for it once. It allocates memory if the map is
-    /// full, and for the list of the items inserted, by which an error returns them: each time for as many items as
-    /// the iterator still promises, but for no more than 65,536 or eight times as many as there are, or for one item
-    /// if there is no memory for so many. For a list of no items it allocates none. To remove the items again, it
-    /// hashes the key of each of them once more. It compares none then, and allocates no memory. After an error the
-    /// capacity may have grown.
+    /// To insert an item, the call hashes its key once, and searches for it once. It allocates memory if the
+    /// map is full, and for the list of the items inserted, by which an error returns them: each time for as many
+    /// items as the iterator still promises, but for no more than 65,536 or eight times as many as there are, or for
+    /// one item if there is no memory for so many. For a list of no items it allocates none. To remove the items
+    /// again, it hashes the key of each of them once more. It compares none then, and allocates no memory. After an
+    /// error the capacity may have grown.
     ///
     /// ```text
     /// if let Err(refused) = map.extend_unique(batch) {
