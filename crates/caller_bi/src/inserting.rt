@@ -10,7 +10,7 @@ use std::hash::{BuildHasher, Hash};
 
 /// Inserts an item, or drops it if the insert fails. Returns whether it was inserted.
 pub fn insert_or_drop<T: Ranked + Drop, S: BuildHasher>(map: &mut BiHashMap<T, S>, item: T) -> bool
-    ensures gains { OnTrue result (Gains map.old item map.new) }
+    ensures gains { OnTrue result (Gains 1 map.old item map.new) }
     ensures unchanged { OnFalse result (map.new ≡ map.old) }
     ensures reason { OnFalse result (MayRefuse T.ranks map.old item) }
     ensures no_less_room { map.old.capacity ≤ map.new.capacity }
@@ -32,8 +32,8 @@ pub fn insert_both<T: Ranked + Drop, S: BuildHasher>(map: &mut BiHashMap<T, S>, 
     ensures both { OnTrue result (GainsBoth (bag map.old) a b (bag map.new)) }
     // Otherwise neither was inserted, or only b was, or only a was.
     ensures refused { OnFalse result (((map.new ≡ map.old) × MayRefuse T.ranks map.old a × MayRefuse T.ranks map.old b)
-        ⊎ (Gains map.old b map.new × MayRefuse T.ranks map.old a)
-        ⊎ (Gains map.old a map.new × MayRefuse T.ranks map.new b)) }
+        ⊎ (Gains 1 map.old b map.new × MayRefuse T.ranks map.old a)
+        ⊎ (Gains 1 map.old a map.new × MayRefuse T.ranks map.new b)) }
     ensures no_less_room { map.old.capacity ≤ map.new.capacity }
     ensures granted { conflicts_of T.ranks (bag map.old) a ≡ [] → conflicts_of T.ranks (a ∷ bag map.old) b ≡ []
         → 1 + length (bag map.old) < map.old.capacity → result ≡ true }

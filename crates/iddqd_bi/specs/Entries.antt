@@ -227,13 +227,13 @@ module _ {T S K1 K2 H : Type 0} {of : item.Ghosts T K1 K2}
           (r : RefMut T S K1 K2 H of eq1 input1 eq2 input2 build hashes) : Type 0 where
         pub same_map : ref_lender r ≡ e.map.ghost_name
         pub item : ref_item r ≡ Some x
-        pub gains : Gains e.map.now x (ref_map r)
+        pub gains : Gains 1 e.map.now x (ref_map r)
 
       -- The item `x` was inserted into this very map (`Gains`), and is held for writing, by each of its keys.
       -- Example: A map of a, b becomes `x`, a, b, and `held_items` is `x`.
       pub record GainsAndHolds (x : T) (m : OccupiedEntryMut T S K1 K2 H) : Type 0 where
         pub same_map : m.map.ghost_name ≡ e.map.ghost_name
-        pub gains : Gains e.map.now x m.map.now
+        pub gains : Gains 1 e.map.now x m.map.now
         pub holds : Holds m
         pub held : held_items m ≡ x ∷ []
         pub unique : held_entry m ≡ unique x
@@ -304,7 +304,7 @@ module _ {T S K1 K2 H : Type 0} {of : item.Ghosts T K1 K2}
         (e : VacantEntry T S Q1 Q2 K1 K2 H of eq1 input1 eq2 input2 build hashes q1 w1 e1 q2 w2 e2)
         (x : T) (o : OccupiedEntry T S Q1 Q2 K1 K2 H) : Type 0 where
       pub same_map : o.map.ghost_name ≡ e.map.ghost_name
-      pub gains : Gains e.map.now x o.map.now
+      pub gains : Gains 1 e.map.now x o.map.now
       pub keys : (o.query1 ≡ e.query1) × (o.query2 ≡ e.query2)
       pub has_found : HasFound (key_tests of q1.stands_for q2.stands_for) o
       pub unique : entry (vacant_tests e) (bag o.map.now) ≡ unique x

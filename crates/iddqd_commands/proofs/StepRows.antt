@@ -198,17 +198,25 @@ three_on_the_way (suc (suc zero)) = omega arith
 three_on_the_way (suc (suc (suc n))) = omega arith
 
 extends : Extends {D = ℕ} pairs (state m2 2) two_more done (state extended 3)
-extends = ((IsPermutation-refl extended, three_on_the_way, omega arith), λ room. omega (arith, room))
+extends = (
+  record { items = IsPermutation-refl extended; fits_on_the_way = three_on_the_way; no_less_room = omega arith; most = omega arith },
+  λ room. omega (arith, room),
+)
 
 -- after the first item of the list there are three
 not_in_room_for_two : Extends {D = ℕ} pairs (state m2 2) two_more done (state extended 2) → ⊥
-not_in_room_for_two step = omega (arith, step.0.1 1)
+not_in_room_for_two step = omega (arith, step.0.fits_on_the_way 1)
+
+-- whatever an iterator promises
+no_room_for_many_more : Extends {D = ℕ} pairs (state m2 2) two_more done (state extended 200000) → ⊥
+no_room_for_many_more step = omega (arith, step.0.most)
 
 no_growth_where_all_fit : Extends {D = ℕ} pairs (state m2 7) two_more done (state extended 14) → ⊥
 no_growth_where_all_fit step = omega (arith, step.1 (omega arith))
 
 ends_at_an_item_without_memory : Extends {D = ℕ} pairs (state m2 2) two_more (memory third) (state m2 2)
-ends_at_an_item_without_memory = ([], (3, 20, 0) ∷ [], refl, (IsPermutation-refl m2, (λ n. nothing_yet n), omega arith), refl, refl)
+ends_at_an_item_without_memory =
+    ([], (3, 20, 0) ∷ [], refl, record { items = IsPermutation-refl m2; fits_on_the_way = λ n. nothing_yet n; no_less_room = omega arith; most = omega arith }, refl, refl)
   where
     nothing_yet : FitsOnTheWay pairs m2 [] 2
     nothing_yet zero = omega arith

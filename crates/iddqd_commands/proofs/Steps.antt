@@ -78,8 +78,8 @@ module _ {T D : Type 0} (ranks : Ranks T) (laws : AreLawful ranks) (old new : St
   IsSound-Lists reply step = absurd step
 
   pub IsSound-Extends : (xs : List T) (reply : Reply T D) → Extends ranks old xs reply new → IsSound ranks new.items
-  IsSound-Extends xs done step = moved ranks laws old new sound (with_items ranks old.items xs) step.0.0 (IsSound-with_items ranks old.items xs sound)
-  IsSound-Extends xs (memory y) step = moved ranks laws old new sound (with_items ranks old.items step.0) step.3.0 (IsSound-with_items ranks old.items step.0 sound)
+  IsSound-Extends xs done step = moved ranks laws old new sound (with_items ranks old.items xs) step.0.items (IsSound-with_items ranks old.items xs sound)
+  IsSound-Extends xs (memory y) step = moved ranks laws old new sound (with_items ranks old.items step.0) step.3.items (IsSound-with_items ranks old.items step.0 sound)
   IsSound-Extends xs reply step = absurd step
 
   pub IsSound-ExtendsUnique : (xs : List T) (reply : Reply T D) → ExtendsUnique ranks old xs reply new → IsSound ranks new.items

@@ -150,7 +150,7 @@ fn put<M: SlotMap, F: Format>(
 ) -> Result<(), F::Error>
 where
     M::Item: Drop,
-    ensures gains { OnOk result (Gains (M.shown map.old) item (M.shown map.new)) }
+    ensures gains { OnOk result (Gains 1 (M.shown map.old) item (M.shown map.new)) }
 {
     let Ok(at) = map.places(&item, &mut Costs::new()) else {
         return Err(equal_key(from));

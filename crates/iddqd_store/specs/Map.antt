@@ -38,13 +38,27 @@ bag m = contents m.slots
 abbrev pub hash_of : {S H : Type 0} → builder.Ghosts S H → hasher.Ghosts H → S → HashWrites → ℕ
 hash_of b h s writes = h.finish (fold h.write (b.build_hasher s) writes)
 
--- The map has exactly this one item more, and the items fit. The capacity grows only if the map was full, and nothing
--- else changes.
+-- `most_grown` is the highest capacity of a map of so many items that has grown because it was full: what it was, or 7, or twice as
+-- many items as there are with as many more as were `wanted`, but with no more than 65,536 or eight times as many as there are.
+-- Example: From the capacity 7, with 7 items, it is 16 for one more, 54 for 20 more, and 131086 for a million more.
+abbrev pub most_grown : ℕ → ℕ → ℕ → ℕ
+most_grown capacity count wanted = max capacity (max (2 * (count + min wanted (max (8 * count) 65536))) 7)
+
+-- `most_extended` is the highest capacity of a map that was extended, if with what came there would be so many items at most: what
+-- it was, or room for 18 times as many items, or for twice as many and 131,072 more.
+-- Example: From the capacity 7, with 10 items, it is 131092, and with 10,000 items 180000.
+abbrev pub most_extended : ℕ → ℕ → ℕ
+most_extended capacity count = max capacity (2 * max (9 * count) (count + 65536))
+
+-- The map has exactly this one item more, and the items fit. The capacity grows only if the map was full, and then as it may for so
+-- many `wanted` (`most_grown`), which is 1 for an insert of one item: to twice as many items as there are then, or 7. Nothing else
+-- changes.
 -- Example: A map of the bag with the capacity 7 gains (4, 40), and its capacity stays 7.
-pub record Gains {T S : Type 0} (old : Map T S) (item : T) (new : Map T S) : Type 0 where
+pub record Gains {T S : Type 0} (wanted : ℕ) (old : Map T S) (item : T) (new : Map T S) : Type 0 where
   pub items : IsPermutation (bag new) (item ∷ bag old)
   pub no_less_room : old.capacity ≤ new.capacity
   pub same_room : length (bag old) < old.capacity → new.capacity ≡ old.capacity
+  pub most : new.capacity ≤ most_grown old.capacity (length (bag old)) wanted
   pub fits : length (bag new) ≤ new.capacity
   pub same_builder : new.builder ≡ old.builder
 
@@ -68,13 +82,15 @@ pub record PutsAt {T S : Type 0} (ranks : Ranks T) (old : Map T S) (slot : ℕ) 
   pub same_builder : new.builder ≡ old.builder
 
 -- The item is in the map in the place of those that conflict with it (`with_item`), and the items fit. The capacity grows
--- only if the map was full and nothing conflicts with the item, and nothing else changes.
+-- only if the map was full and nothing conflicts with the item, and then as in `Gains`. Nothing else changes.
 -- Example: A map of the bag, overwritten with (1, 20), has (1, 20), (3, 30).
-pub record Overwrites {T S : Type 0} (ranks : Ranks T) (old : Map T S) (item : T) (new : Map T S) : Type 0 where
+pub record Overwrites {T S : Type 0} (ranks : Ranks T) (wanted : ℕ) (old : Map T S) (item : T)
+    (new : Map T S) : Type 0 where
   pub items : IsPermutation (bag new) (with_item ranks (bag old) item)
   pub fits : length (bag new) ≤ new.capacity
   pub no_less_room : old.capacity ≤ new.capacity
   pub same_room : length (bag old) < old.capacity → new.capacity ≡ old.capacity
+  pub most : new.capacity ≤ most_grown old.capacity (length (bag old)) wanted
   pub no_growth : conflicts_of ranks (bag old) item ≢ [] → new.capacity ≡ old.capacity
   pub same_builder : new.builder ≡ old.builder
 

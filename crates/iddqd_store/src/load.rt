@@ -99,6 +99,7 @@ pub fn slots_wanted(len: usize, room: usize, more: usize, cells: usize) -> usize
 /// next time the rest is asked for at once: then each item but a ninth is inserted into the tables in which it stays.
 pub fn at_once(promised: usize, len: usize) -> usize
     ensures some { 0 < promised → 0 < result }
+    ensures within { result ≤ promised }
     ensures most { result ≤ max (8 * len) 65536 }
     ensures all { promised ≤ max (8 * len) 65536 → result ≡ promised }
     ensures part { max (8 * len) 65536 < promised → result ≡ min (max (8 * len) 65536) ((promised - 8 * len + 8) / 9) }

@@ -23,7 +23,7 @@ impl<T: Ranked, S: BuildHasher> BiHashMap<T, S> {
     /// item, and borrows the map, which is as it was.
     ///
     /// The call hashes each key of the item once, and searches for it once. It allocates memory only if the map is
-    /// full.
+    /// full. The capacity then grows to no more than twice as many items as there are with this one, or 7.
     ///
     /// ```text
     /// match devices.insert_unique(device) {
@@ -43,7 +43,7 @@ impl<T: Ranked, S: BuildHasher> BiHashMap<T, S> {
         // Once the error is gone, the map has the item after `Ok`, and otherwise it is as it was.
         ensures* ends { sem 𝓛 (ends_as T.row S.row T.K1.row T.K2.row S.Hasher.row
             T.BiHashItem T.K1.Hash T.K2.Hash S.BuildHasher S.Hasher.Hasher
-            self.entry result (λ new. Gains self.old item new)) }
+            self.entry result (λ new. Gains 1 self.old item new)) }
     {
         match self.insert_or_refuse(item, 1, &mut Costs::new()) {
             Ok(()) => Ok(()),
@@ -72,12 +72,12 @@ impl<T: Ranked, S: BuildHasher> BiHashMap<T, S> {
     /// then.
     ///
     /// The call hashes each key of the item once, and searches for it once. It allocates memory only if the map is
-    /// full.
+    /// full. The capacity then grows to no more than twice as many items as there are with this one, or 7.
     ///
     /// `match map.try_insert(item) { Ok(()) => {}, Err(e) => report(e.taken1, e.item) }`
     pub fn try_insert(&mut self, item: T) -> Result<(), Rejected<T>>
         // The result is `Ok` only if nothing conflicts, and then always if there is spare capacity.
-        ensures gains { OnOk result (Gains self.old item self.new) }
+        ensures gains { OnOk result (Gains 1 self.old item self.new) }
         ensures free { OnOk result (conflicts_of T.ranks (bag self.old) item ≡ []) }
         ensures granted { conflicts_of T.ranks (bag self.old) item ≡ []
             → length (bag self.old) < self.old.capacity → IsOk result }

@@ -188,7 +188,7 @@ impl<T: BiHashItem, S: BuildHasher> BiHashMap<T, S> {
             (map (hash_of S.BuildHasher S.Hasher.Hasher self.old.builder)
             (Q1.hash_input query1 ∷ Q2.hash_input query2 ∷ []))
             (at.0 ∷ at.1 ∷ []) }
-        ensures gains { OnOk result (Gains self.old item self.new) }
+        ensures gains { OnOk result (Gains 1 self.old item self.new) }
         ensures value { IfOk result (λ slot. get self.new.slots slot ≡ Some item) }
         ensures sound { OnOk result (IsSound ⟦<T as Ranked>⟧.ranks (bag self.new)) }
         ensures same_keys { OnOk result
@@ -278,7 +278,7 @@ impl<T: BiHashItem, S: BuildHasher> BiHashMap<T, S> {
         costs: &mut Costs,
     ) -> Result<(), Refusal<T>>
         requires { 0 < wanted }
-        ensures gains { OnOk result (Gains self.old item self.new) }
+        ensures gains { OnOk result (Gains wanted self.old item self.new) }
         ensures free { OnOk result (conflicts_of ⟦<T as Ranked>⟧.ranks (bag self.old) item ≡ []) }
         ensures handed_back { IfErr result (λ e. refusal_item e ≡ item) }
         ensures unchanged { OnErr result (self.new ≡ self.old) }

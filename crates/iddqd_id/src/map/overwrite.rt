@@ -17,13 +17,14 @@ impl<T: Ranked, S: BuildHasher> IdHashMap<T, S> {
     /// Inserts an item, and removes the one that conflicts with it, which the call returns.
     ///
     /// The call hashes the key of the item once, and searches for it once. If an item conflicts, the call allocates no
-    /// memory and the capacity stays. Otherwise it fails only if the map is full and there is no memory to grow. The
-    /// error then has the item, and the map is as it was.
+    /// memory and the capacity stays. Otherwise it grows only if the map is full, and then to no more than twice as many
+    /// items as there are with this one, or 7, and it fails only if there is no memory for that. The error then has the
+    /// item, and the map is as it was.
     #[inline(always)]
     pub fn insert_overwrite(&mut self, item: T) -> Result<Option<T>, MemoryRefused<T>>
         // The conflicting item is returned, and the item is in its place.
         ensures displaced { IfOk result (λ gone. option_to_list gone ≡ conflicting T.ranks (bag self.old) item) }
-        ensures overwrites { OnOk result (Overwrites T.ranks self.old item self.new) }
+        ensures overwrites { OnOk result (Overwrites T.ranks 1 self.old item self.new) }
         // With spare capacity the call never fails.
         ensures granted { length (bag self.old) < self.old.capacity → IsOk result }
         // The error has the item, and the map is as it was. This happens only in a full map, without a conflict.
@@ -47,7 +48,7 @@ impl<T: Ranked, S: BuildHasher> IdHashMap<T, S> {
         requires { 0 < wanted }
         // The conflicting item is returned, and the item is in its place.
         ensures displaced { IfOk result (λ gone. option_to_list gone ≡ conflicting T.ranks (bag self.old) item) }
-        ensures overwrites { OnOk result (Overwrites T.ranks self.old item self.new) }
+        ensures overwrites { OnOk result (Overwrites T.ranks wanted self.old item self.new) }
         // With spare capacity the call never fails.
         ensures granted { length (bag self.old) < self.old.capacity → IsOk result }
         // The error has the item, and the map is as it was. This happens only in a full map, without a conflict.

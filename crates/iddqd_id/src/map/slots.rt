@@ -155,7 +155,7 @@ impl<T: IdHashItem, S: BuildHasher> IdHashMap<T, S> {
             (map (hash_of S.BuildHasher S.Hasher.Hasher self.old.builder)
             (Q.hash_input query ∷ []))
             (at ∷ []) }
-        ensures gains { OnOk result (Gains self.old item self.new) }
+        ensures gains { OnOk result (Gains 1 self.old item self.new) }
         ensures value { IfOk result (λ slot. get self.new.slots slot ≡ Some item) }
         ensures sound { OnOk result (IsSound ⟦<T as Ranked>⟧.ranks (bag self.new)) }
         ensures same_keys { OnOk result
@@ -219,7 +219,7 @@ impl<T: IdHashItem, S: BuildHasher> IdHashMap<T, S> {
         costs: &mut Costs,
     ) -> Result<(), Refusal<T>>
         requires { 0 < wanted }
-        ensures gains { OnOk result (Gains self.old item self.new) }
+        ensures gains { OnOk result (Gains wanted self.old item self.new) }
         ensures free { OnOk result (conflicts_of ⟦<T as Ranked>⟧.ranks (bag self.old) item ≡ []) }
         ensures handed_back { IfErr result (λ e. refusal_item e ≡ item) }
         ensures unchanged { OnErr result (self.new ≡ self.old) }

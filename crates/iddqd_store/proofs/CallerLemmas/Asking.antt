@@ -117,7 +117,7 @@ module _ {T : Type 0} where
   kept-filters step f old new kept = λ test told. kept-filter step test f (λ x b g k. let t = told x b g k in (t.1, t.0)) old new kept
 
   -- there is at most one item more after an overwrite, whether it succeeds or fails
-  pub length-overwritten : {S A E : Type 0} (ranks : Ranks T) (old new : Map T S) (x : T) (r : Result A E) → OnOk r (Overwrites ranks old x new)
+  pub length-overwritten : {S A E : Type 0} (ranks : Ranks T) (old new : Map T S) (x : T) (r : Result A E) → OnOk r (Overwrites ranks 1 old x new)
       → OnErr r (new ≡ old) → length (bag new) ≤ length (bag old) + 1
   length-overwritten ranks old new x (Ok a) put same = omega (arith, length-overwritten_by ranks (bag old) (bag new) x put.items)
   length-overwritten ranks old new x (Err e) put same = omega (arith, ap (λ m. length (bag m)) same)

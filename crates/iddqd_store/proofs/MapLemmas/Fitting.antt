@@ -1,11 +1,11 @@
 -- A map that gets the items of a list, which are certain to fit, and one from which they were removed again.
 use Rattle.std.specs.List.{list_any}
 use Rattle.std.specs.Prelude.{◌≡◌, ◌+◌, ◌<◌, ◌≤◌, ℕ, suc, Bool, List, [], ◌∷◌, ◌++◌, length, IsPermutation}
-use Rattle.std.proofs.Common.{le_of_eq, le_trans, subst, sym, ◌∙◌}
+use Rattle.std.proofs.Common.{arith, length-append, le_of_eq, le_trans, subst, sym, ◌∙◌}
 use Rattle.std.proofs.lemmas.List.Sorted.{IsPermutation-sym, length_permutation, list_any-IsPermutation}
 use Rattle.iddqd_store.specs.Bag.{Ranks, AreLawful, IsSound, conflicts_of}
 use Rattle.iddqd_store.specs.Bag.Building.{AddsTo}
-use Rattle.iddqd_store.specs.Map.{Map, bag, Gains, GrowsUnless, Loses, Overwrites}
+use Rattle.iddqd_store.specs.Map.{Map, bag, Gains, GrowsUnless, Loses, Overwrites, most_extended, most_grown}
 use Rattle.iddqd_store.specs.Slots.{contents}
 use Rattle.iddqd_store.specs.Slots.Found.{StandAt, items_at}
 use Rattle.iddqd_store.proofs.BagLemmas.Building.{AddsTo-IsPermutation, AddsTo-nil, AddsTo-push, AddsTo-sound, length-overwritten}
@@ -40,11 +40,11 @@ module _ {T S : Type 0} {certain : Type 0} {left : ℕ} {old now : Map T S} (so_
       same_builder = builder ∙ so_far.same_builder;
     }
 
-    pub HasRoomOn-gains : {x : T} {new : Map T S} → Gains now x new → HasRoomOn certain next old new
+    pub HasRoomOn-gains : {wanted : ℕ} {x : T} {new : Map T S} → Gains wanted now x new → HasRoomOn certain next old new
     HasRoomOn-gains {new = new} gains = more new (le_of_eq (sym (length_permutation _ _ gains.items))) gains.no_less_room gains.same_room gains.same_builder
 
-    pub HasRoomOn-overwrites : {ranks : Ranks T} {x : T} {new : Map T S} → Overwrites ranks now x new → HasRoomOn certain next old new
-    HasRoomOn-overwrites {ranks} {x} {new} put = more new (length-overwritten ranks (bag now) (bag new) x put.items) put.no_less_room put.same_room put.same_builder
+    pub HasRoomOn-overwrites : {ranks : Ranks T} {wanted : ℕ} {x : T} {new : Map T S} → Overwrites ranks wanted now x new → HasRoomOn certain next old new
+    HasRoomOn-overwrites {ranks} {wanted} {x} {new} put = more new (length-overwritten ranks (bag now) (bag new) x put.items) put.no_less_room put.same_room put.same_builder
 
     -- it did not come in, and others left
     pub GrowsUnless-left : {mid new : Map T S} → GrowsUnless (length (bag now) < now.capacity) now mid → new.capacity ≡ mid.capacity → new.builder ≡ mid.builder → GrowsUnless certain old new
@@ -59,6 +59,7 @@ pub record InsertsBatch {T S : Type 0} (ranks : Ranks T) (certain : Type 0) (lef
   pub added : AddsTo ranks (bag old) (bag now) xs
   pub noted : StandAt now.slots notes xs
   pub room : HasRoomOn certain left old now
+  pub most : now.capacity ≤ most_extended old.capacity (length (bag old) + length xs)
 
 -- They were removed again. A key that an item had in between, one of the bag and of the list has.
 pub record Undone {T : Type 0} (ranks : Ranks T) (old held new taken xs : List T) : Type 0 where
@@ -69,15 +70,24 @@ pub record Undone {T : Type 0} (ranks : Ranks T) (old held new taken xs : List T
   pub key : (test : T → Bool) → list_any test held ≡ list_any test (taken ++ old)
 
 pub no_batch : {T S : Type 0} (ranks : Ranks T) {certain : Type 0} {left : ℕ} (m : Map T S) → HasRoomOn certain left m m → InsertsBatch ranks certain left m m [] []
-no_batch ranks m room = record { added = AddsTo-nil ranks (bag m); noted = StandAt-nil m.slots; room = room }
+no_batch ranks m room = record { added = AddsTo-nil ranks (bag m); noted = StandAt-nil m.slots; room = room; most = omega arith }
 
 module _ {T S : Type 0} {ranks : Ranks T} {certain : Type 0} {left : ℕ} {old now : Map T S} {notes : List ℕ} {xs : List T} (batch : InsertsBatch ranks certain left old now notes xs) where
-  pub one_more : {new : Map T S} {more : List ℕ} {x : T} (next : ℕ) → next < left → conflicts_of ranks (bag now) x ≡ [] → Gains now x new
+  pub all_are : length (bag now) ≡ length (bag old) + length xs
+  all_are = omega (arith, length_permutation _ _ (AddsTo-IsPermutation ranks (bag old) (bag now) xs batch.added), length-append xs (bag old))
+
+  -- the map may have grown for one more, whether it came in or not
+  pub grown_for : (wanted : ℕ) (x : T) {capacity : ℕ} → capacity ≤ most_grown now.capacity (length (bag now)) wanted
+      → capacity ≤ most_extended old.capacity (length (bag old) + length (xs ++ x ∷ []))
+  grown_for wanted x grown = omega (arith, batch.most, grown, all_are, length-append xs (x ∷ []))
+
+  pub one_more : {new : Map T S} {more : List ℕ} {wanted : ℕ} {x : T} (next : ℕ) → next < left → conflicts_of ranks (bag now) x ≡ [] → Gains wanted now x new
       → ((ys : List T) → StandAt now.slots notes ys → StandAt new.slots more (ys ++ x ∷ [])) → InsertsBatch ranks certain next old new more (xs ++ x ∷ [])
-  one_more {new} {more} {x} next nearer free gains note = record {
+  one_more {new} {more} {wanted} {x} next nearer free gains note = record {
     added = AddsTo-push ranks (bag old) (bag now) (bag new) xs x batch.added free gains.items;
     noted = note xs batch.noted;
     room = HasRoomOn-gains batch.room next nearer gains;
+    most = omega (arith, grown_for wanted x gains.most);
   }
 
   module _ (laws : AreLawful ranks) (sound : IsSound ranks (bag old)) where

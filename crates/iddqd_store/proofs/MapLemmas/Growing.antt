@@ -2,7 +2,7 @@
 use Rattle.std.specs.Prelude.{◌≡◌, ◌+◌, ◌*◌, ◌<◌, ◌≤◌, ℕ, suc, [], ◌∷◌, List, Option, Result, Ok, Err, IsErr, IsPermutation, length, min, max, ⊤}
 use Rattle.std.proofs.Common.{arith, refl, ap, subst, ◌∙◌}
 use Rattle.iddqd_store.specs.Bag.{Ranks}
-use Rattle.iddqd_store.specs.Map.{Map, bag, Gains, GrowsUnless, PutsAt, Reserves}
+use Rattle.iddqd_store.specs.Map.{Map, bag, Gains, GrowsUnless, PutsAt, Reserves, most_grown}
 use Rattle.iddqd_store.specs.Rank.Index.{AreIndexes, IsIndexed}
 use Rattle.iddqd_store.specs.Slots.{contents, live_count}
 use Rattle.iddqd_store.specs.Table.{Table}
@@ -139,11 +139,12 @@ module _ {T S : Type 0} (ranks : Ranks T) (old roomy : Map T S)
       same_builder = puts.same_builder ∙ builder;
     }
 
-    pub Gains-put : Gains old x new
-    Gains-put = record {
+    pub Gains-put : {wanted : ℕ} → roomy.capacity ≤ most_grown old.capacity (length (bag old)) wanted → Gains wanted old x new
+    Gains-put most = record {
       items = subst (λ l. IsPermutation (bag new) (x ∷ contents l)) slots puts.items;
       no_less_room = GrowsUnless-put.no_less_room;
       same_room = GrowsUnless-put.same_room;
+      most = omega (arith, most, puts.same_room);
       fits = puts.fits;
       same_builder = GrowsUnless-put.same_builder;
     }

@@ -20,23 +20,25 @@ module _ {T S : Type 0} (ranks : Ranks T) (old new : Map T S) (x : T) where
   }
 
   -- an item that conflicts with none overwrites nothing
-  pub Overwrites-gains : conflicts_of ranks (bag old) x ≡ [] → Gains old x new → Overwrites ranks old x new
+  pub Overwrites-gains : {wanted : ℕ} → conflicts_of ranks (bag old) x ≡ [] → Gains wanted old x new → Overwrites ranks wanted old x new
   Overwrites-gains free gains = record {
     items = over_none ranks (bag old) x free (bag new) gains.items;
     fits = gains.fits;
     no_less_room = gains.no_less_room;
     same_room = gains.same_room;
+    most = gains.most;
     no_growth = λ some. absurd (some free);
     same_builder = gains.same_builder;
   }
 
   -- an item in the place of those that conflict with it overwrites them
-  pub Overwrites-puts : (slot : ℕ) → PutsAt ranks old slot x (with_item ranks (bag old) x) new → Overwrites ranks old x new
+  pub Overwrites-puts : {wanted : ℕ} (slot : ℕ) → PutsAt ranks old slot x (with_item ranks (bag old) x) new → Overwrites ranks wanted old x new
   Overwrites-puts slot puts = record {
     items = puts.items;
     fits = puts.fits;
     no_less_room = omega (arith, puts.same_room);
     same_room = λ _. puts.same_room;
+    most = omega (arith, puts.same_room);
     no_growth = λ _. puts.same_room;
     same_builder = puts.same_builder;
   }

@@ -1,7 +1,7 @@
 -- A map as a state, and how a state is extended by a list of items.
-use Rattle.std.specs.Prelude.{◌≤◌, ℕ, List, [], length, take, IsPermutation}
+use Rattle.std.specs.Prelude.{◌+◌, ◌≤◌, ℕ, List, [], length, take, IsPermutation}
 use Rattle.iddqd_store.specs.Bag.{Ranks, with_items}
-use Rattle.iddqd_store.specs.Map.{Map, bag}
+use Rattle.iddqd_store.specs.Map.{Map, bag, most_extended}
 
 -- `State` is the state of a map: its bag, and its capacity.
 -- Example: (1, 10), (2, 20), (3, 30), and 7.
@@ -25,10 +25,11 @@ module _ {T : Type 0} where
   abbrev pub FitsOnTheWay : Ranks T → List T → List T → ℕ → Type 0
   FitsOnTheWay ranks bag xs capacity = (n : ℕ) → length (with_items ranks bag (take n xs)) ≤ capacity
 
-  -- The items of the list were inserted one by one, each with `with_item`. The capacity is no lower, and was enough at each
-  -- step.
+  -- The items of the list were inserted one by one, each with `with_item`. The capacity is no lower, was enough at each step, and
+  -- has a bound by how many items came, whatever was promised (`most_extended`).
   -- Example: With the list (1, 20), (3, 40) the bag becomes (3, 40), (1, 20).
-  abbrev pub ExtendsTo : Ranks T → State T → List T → State T → Type 0
-  ExtendsTo ranks old xs new =
-      IsPermutation new.items (with_items ranks old.items xs) × FitsOnTheWay ranks old.items xs new.capacity
-      × (old.capacity ≤ new.capacity)
+  pub record ExtendsTo (ranks : Ranks T) (old : State T) (xs : List T) (new : State T) : Type 0 where
+    pub items : IsPermutation new.items (with_items ranks old.items xs)
+    pub fits_on_the_way : FitsOnTheWay ranks old.items xs new.capacity
+    pub no_less_room : old.capacity ≤ new.capacity
+    pub most : new.capacity ≤ most_extended old.capacity (length old.items + length xs)

@@ -31,7 +31,8 @@ impl<
     /// was.
     ///
     /// The call compares the item's keys with the entry's, rank by rank up to the first that differs. It hashes no key
-    /// and searches for none. It allocates memory only if the map is full.
+    /// and searches for none. It allocates memory only if the map is full. The capacity then grows to no more than
+    /// twice as many items as there are with this one, or 7.
     #[inline(always)]
     pub fn insert(self, item: T) -> Result<RefMut<'a, T, S>, EntryError<T>>
         // The guard borrows the item, in this very map.

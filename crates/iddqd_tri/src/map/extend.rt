@@ -1,11 +1,11 @@
 //! Inserting many items at once.
 //!
 //! Made by tests/widths from crates/iddqd_bi/src/map/extend.rt: change that file.
-ghost use Rattle.std.specs.Prelude.{◌≡◌, ◌≤◌, [], length, IsPermutation, IfOk, IfErr, OnOk, OnErr, IsOk};
+ghost use Rattle.std.specs.Prelude.{◌≡◌, ◌≤◌, ◌+◌, [], length, IsPermutation, IfOk, IfErr, OnOk, OnErr, IsOk, MatchResult};
 ghost use Rattle.std.specs.Iterator.{IsFiniteIterable};
 ghost use Rattle.iddqd_store.specs.Bag.{IsSound, conflicts_of, with_items};
 ghost use Rattle.iddqd_store.specs.Bag.Building.{GivesAll, GivesThen, FitsOn, AddsTo, RefusesFor, HasPlaceFor, MatchFromIterError};
-ghost use Rattle.iddqd_store.specs.Map.{bag, GrowsUnless, IsFullFor};
+ghost use Rattle.iddqd_store.specs.Map.{bag, most_extended, GrowsUnless, IsFullFor};
 ghost use Rattle.iddqd_store.specs.Map.State.{ExtendsTo, state_of, empty_state};
 ghost use Rattle.iddqd_tri.specs.InsertErrors.{TellsWhyBehind};
 
@@ -24,8 +24,9 @@ impl<T: Ranked + Drop, S: BuildHasher> TriHashMap<T, S> {
     /// First the call reserves capacity for as many items as the iterator promises, or for half as many if the map has
     /// items, since these may have the same keys. When the map is full, it reserves capacity for those still promised,
     /// or for one item if there is no memory for so many. Each time it asks for no more than 65,536 items, or eight
-    /// times as many as there are. If there is no memory for an item, the error has that item. Those before it stay in
-    /// the map, and the rest are dropped with the iterator.
+    /// times as many as there are. So whatever the iterator promises, the capacity grows to no more than 18 times as
+    /// many items as there are with those that came, or twice as many and 131,072 more. If there is no memory for an
+    /// item, the error has that item. Those before it stay in the map, and the rest are dropped with the iterator.
     pub fn extend<I: IntoIterator<Item = T>>(&mut self, iter: I) -> Result<(), MemoryRefused<T>>
         requires finite { IsFiniteIterable I.into_iter_gives I.IntoIter.can_next I.IntoIter.remaining iter }
         // After `Ok`, each item was inserted in place of what conflicts with it; after an error, each item before the
@@ -72,7 +73,7 @@ impl<T: Ranked + Drop, S: BuildHasher> TriHashMap<T, S> {
     /// items as the iterator still promises, but for no more than 65,536 or eight times as many as there are, or for
     /// one item if there is no memory for so many. For a list of no items it allocates none. To remove the items
     /// again, it hashes each key of them once more. It compares none then, and allocates no memory. After an error the
-    /// capacity may have grown.
+    /// capacity may have grown. It never grows to more than `extend` lets it.
     ///
     /// ```text
     /// if let Err(refused) = map.extend_unique(batch) {
@@ -96,6 +97,12 @@ impl<T: Ranked + Drop, S: BuildHasher> TriHashMap<T, S> {
         ensures reason { IfErr result (TellsWhyBehind T.TriHashItem T.K1.eq T.K2.eq T.K3.eq (bag self.old)) }
         // The map stays sound, and grows only if the items might not fit.
         ensures sound { IsSound T.ranks (bag self.new) }
+        // Whatever the iterator promises, the capacity has a bound by how many items there are, or would be with those
+        // that came.
+        ensures most { MatchResult result
+            (λ _. self.new.capacity ≤ most_extended self.old.capacity (length (bag self.new)))
+            (λ e. self.new.capacity ≤ most_extended self.old.capacity (length
+            (bag self.old) + length e.before.items + 1)) }
         ensures grows_unless { GrowsUnless
             (FitsOn I.into_iter_gives I.IntoIter.remaining iter (length (bag self.old)) self.old.capacity)
             self.old self.new }
@@ -156,6 +163,8 @@ impl<T: Ranked + Drop, S: BuildHasher + Default + Drop> TriHashMap<T, S> {
         ensures all { IfOk result (λ map. GivesAll I.into_iter_gives I.IntoIter.next_gives iter
             (AddsTo T.ranks [] (bag map))) }
         ensures fits { IfOk result (λ map. length (bag map) ≤ map.capacity) }
+        // Whatever the iterator promises, the capacity has a bound by how many items there are.
+        ensures most { IfOk result (λ map. map.capacity ≤ most_extended 0 (length (bag map))) }
         // The error has the first item that could not be inserted, and why.
         ensures refused { IfErr result (λ e. MatchFromIterError e
             (λ x duplicates. GivesThen I.into_iter_gives I.IntoIter.next_gives iter x

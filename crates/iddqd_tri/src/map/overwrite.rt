@@ -17,13 +17,13 @@ impl<T: Ranked, S: BuildHasher> TriHashMap<T, S> {
     ///
     /// The call hashes each key of the item once, and searches for it once. It also hashes each key of a removed item
     /// by which it did not find that item. If items conflict, it allocates no memory and the capacity stays. Otherwise
-    /// it fails only if the map is full and there is no memory to grow. The error then has the item, and the map is as
-    /// it was.
+    /// it grows only if the map is full, and then to no more than twice as many items as there are with this one, or 7,
+    /// and it fails only if there is no memory for that. The error then has the item, and the map is as it was.
     #[inline(always)]
     pub fn insert_overwrite(&mut self, item: T) -> Result<UpToThree<T>, MemoryRefused<T>>
         // The conflicting items are returned, in the order of the item's keys, and the item is in their place.
         ensures displaced { IfOk result (λ gone. gone ≡ conflicting T.ranks (bag self.old) item) }
-        ensures overwrites { OnOk result (Overwrites T.ranks self.old item self.new) }
+        ensures overwrites { OnOk result (Overwrites T.ranks 1 self.old item self.new) }
         // With spare capacity the call never fails.
         ensures granted { length (bag self.old) < self.old.capacity → IsOk result }
         // The error has the item, and the map is as it was. This happens only in a full map, without a conflict.
@@ -48,7 +48,7 @@ impl<T: Ranked, S: BuildHasher> TriHashMap<T, S> {
         requires { 0 < wanted }
         // The conflicting items are returned, in the order of the item's keys, and the item is in their place.
         ensures displaced { IfOk result (λ gone. gone ≡ conflicting T.ranks (bag self.old) item) }
-        ensures overwrites { OnOk result (Overwrites T.ranks self.old item self.new) }
+        ensures overwrites { OnOk result (Overwrites T.ranks wanted self.old item self.new) }
         // With spare capacity the call never fails.
         ensures granted { length (bag self.old) < self.old.capacity → IsOk result }
         // The error has the item, and the map is as it was. This happens only in a full map, without a conflict.

@@ -15,7 +15,7 @@ granted false met held room (inr full) free fits = absurd (omega (arith, full, f
 pub returns-then-has_a-clause-granted : goal.returns-then-has_a-clause-granted
 returns-then-has_a-clause-granted g c free_a free_b room =
     let middle = c.insert_or_drop-has_a.new.map in
-    let gains : Gains c.args.map.now c.args.a middle = search (rules, c.insert_or_drop-has_a.ensures.gains, c.if-has_a.true) in
+    let gains : Gains 1 c.args.map.now c.args.a middle = search (rules, c.insert_or_drop-has_a.ensures.gains, c.if-has_a.true) in
     let as_many : length (c.args.a ∷ bag c.args.map.now) ≡ length (bag middle) = length_permutation _ _ gains.items in
     granted c.insert_or_drop-has_b.result _ (length (bag middle)) middle.capacity c.insert_or_drop-has_b.ensures.reason
     (conflicts_of-none g.T.Ranked.ranks _ _ c.args.b (IsPermutation-sym _ _ gains.items) free_b)

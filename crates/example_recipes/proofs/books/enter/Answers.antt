@@ -10,7 +10,7 @@ pub returns-in-Some-clause-entered : goal.returns-in-Some-clause-entered
 returns-in-Some-clause-entered c = λ done.
     let it = c.in-Some.ensures.value in
     let orders = c.try_insert.new.self in
-    let gained = on_ok {P = Gains c.in-Some.orders.now c.args.order orders} c.try_insert.result (sym c.is_ok.ensures.value ∙ done) c.try_insert.ensures.gains in
+    let gained = on_ok {P = Gains 1 c.in-Some.orders.now c.args.order orders} c.try_insert.result (sym c.is_ok.ensures.value ∙ done) c.try_insert.ensures.gains in
     (it.0, record it.0 { orders = orders }, it.1, refl, refl, rw it.2 at gained.items, c.in-Some.ensures.swaps it.0 orders it.1)
 
 -- the only book with the name is the one of which they are

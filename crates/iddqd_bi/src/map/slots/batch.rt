@@ -1,8 +1,8 @@
 //! Inserting the items of a list so that they can be removed again if a later one is rejected.
-ghost use Rattle.std.specs.Prelude.{◌≡◌, ◌<◌, ◌++◌, [], ◌∷◌, length, List, All, IsOk, OnOk, OnErr, IfErr, nat_eq};
+ghost use Rattle.std.specs.Prelude.{◌≡◌, ◌<◌, ◌≤◌, ◌++◌, [], ◌∷◌, length, List, All, IsOk, OnOk, OnErr, IfErr, nat_eq};
 ghost use Rattle.std.specs.List.{IsDistinct};
 ghost use Rattle.iddqd_store.specs.Bag.{conflicts_of};
-ghost use Rattle.iddqd_store.specs.Map.{bag, Gains, GrowsUnless, Loses};
+ghost use Rattle.iddqd_store.specs.Map.{bag, most_grown, Gains, GrowsUnless, Loses};
 ghost use Rattle.iddqd_store.specs.Slots.{IsLive};
 ghost use Rattle.iddqd_store.specs.Slots.Found.{items_at, StandAt};
 ghost use Rattle.iddqd_bi.specs.InsertErrors.{TellsTaken};
@@ -28,7 +28,7 @@ impl<T: BiHashItem, S: BuildHasher> BiHashMap<T, S> {
     where
         T: Drop,
         requires { 0 < wanted }
-        ensures gains { OnOk result (Gains self.old item self.new) }
+        ensures gains { OnOk result (Gains wanted self.old item self.new) }
         ensures free { OnOk result (conflicts_of ⟦<T as Ranked>⟧.ranks (bag self.old) item ≡ []) }
         ensures noted { OnOk result ((xs : List T) → StandAt self.old.slots batch.old.slots xs
             → StandAt self.new.slots batch.new.slots (xs ++ item ∷ [])) }
@@ -38,6 +38,7 @@ impl<T: BiHashItem, S: BuildHasher> BiHashMap<T, S> {
         ensures slots { OnErr result (self.new.slots ≡ self.old.slots) }
         ensures same_notes { OnErr result (batch.new.slots ≡ batch.old.slots) }
         ensures grows_unless { GrowsUnless (length (bag self.old) < self.old.capacity) self.old self.new }
+        ensures most { self.new.capacity ≤ most_grown self.old.capacity (length (bag self.old)) wanted }
     {
         let at = match self.places(&item, &mut Costs::new()) {
             Searched::Vacant(at) => at,

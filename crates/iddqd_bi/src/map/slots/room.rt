@@ -1,6 +1,6 @@
 //! How many items fit, and room for more. The capacity of a map is the least of those of its slots and tables.
 ghost use Rattle.std.specs.Prelude.{◌≡◌, ◌==◌, ◌<◌, ◌≤◌, length, OnOk, OnErr};
-ghost use Rattle.iddqd_store.specs.Map.{bag, Reserves};
+ghost use Rattle.iddqd_store.specs.Map.{bag, most_grown, Reserves};
 ghost use Rattle.iddqd_store.specs.Table.Limit.{most_room};
 
 use crate::item::BiHashItem;
@@ -48,6 +48,7 @@ impl<T: BiHashItem, S: BuildHasher> BiHashMap<T, S> {
         ensures builder { self.new.builder ≡ self.old.builder }
         ensures no_less_room { self.old.capacity ≤ self.new.capacity }
         ensures same_room { length (bag self.old) < self.old.capacity → self.new ≡ self.old }
+        ensures most { self.new.capacity ≤ most_grown self.old.capacity (length (bag self.old)) wanted }
         ensures room { OnOk result (length (bag self.old) < self.new.capacity) }
         ensures reason { OnErr result (length (bag self.old) ≡ self.old.capacity) }
         ensures unchanged { OnErr result (self.new ≡ self.old) }
@@ -66,6 +67,7 @@ impl<T: BiHashItem, S: BuildHasher> BiHashMap<T, S> {
         ensures slots { self.new.slots ≡ self.old.slots }
         ensures builder { self.new.builder ≡ self.old.builder }
         ensures no_less_room { self.old.capacity ≤ self.new.capacity }
+        ensures most { self.new.capacity ≤ most_grown self.old.capacity (length (bag self.old)) wanted }
         ensures room { OnOk result (length (bag self.old) < self.new.capacity) }
         ensures unchanged { OnErr result (self.new ≡ self.old) }
     {

@@ -2,7 +2,7 @@
 //!
 //! Made by tests/widths from crates/iddqd_bi/src/map/slots/room.rt: change that file.
 ghost use Rattle.std.specs.Prelude.{◌≡◌, ◌==◌, ◌<◌, ◌≤◌, length, OnOk, OnErr};
-ghost use Rattle.iddqd_store.specs.Map.{bag, Reserves};
+ghost use Rattle.iddqd_store.specs.Map.{bag, most_grown, Reserves};
 ghost use Rattle.iddqd_store.specs.Table.Limit.{most_room};
 
 use crate::item::TriHashItem;
@@ -51,6 +51,7 @@ impl<T: TriHashItem, S: BuildHasher> TriHashMap<T, S> {
         ensures builder { self.new.builder ≡ self.old.builder }
         ensures no_less_room { self.old.capacity ≤ self.new.capacity }
         ensures same_room { length (bag self.old) < self.old.capacity → self.new ≡ self.old }
+        ensures most { self.new.capacity ≤ most_grown self.old.capacity (length (bag self.old)) wanted }
         ensures room { OnOk result (length (bag self.old) < self.new.capacity) }
         ensures reason { OnErr result (length (bag self.old) ≡ self.old.capacity) }
         ensures unchanged { OnErr result (self.new ≡ self.old) }
@@ -70,6 +71,7 @@ impl<T: TriHashItem, S: BuildHasher> TriHashMap<T, S> {
         ensures slots { self.new.slots ≡ self.old.slots }
         ensures builder { self.new.builder ≡ self.old.builder }
         ensures no_less_room { self.old.capacity ≤ self.new.capacity }
+        ensures most { self.new.capacity ≤ most_grown self.old.capacity (length (bag self.old)) wanted }
         ensures room { OnOk result (length (bag self.old) < self.new.capacity) }
         ensures unchanged { OnErr result (self.new ≡ self.old) }
     {

@@ -1,8 +1,8 @@
 -- Made by tests/widths from crates/iddqd_bi/proofs/map/BiHashMap/extend_unique/Answers.antt: change that file.
-use Rattle.std.proofs.Common.{rules, sym, ◌∙◌}
+use Rattle.std.proofs.Common.{[], ◌∷◌, ap, arith, length, length-append, rules, sym, ◌∙◌}
 use Rattle.std.proofs.iter.Next.{on}
 use Rattle.iddqd_id.specs.Keys.{has}
-use Rattle.iddqd_store.proofs.MapLemmas.Fitting.{GrowsUnless-left, GrowsUnless-so_far, no_batch, one_more, sound_then, undone}
+use Rattle.iddqd_store.proofs.MapLemmas.Fitting.{GrowsUnless-left, GrowsUnless-so_far, all_are, grown_for, no_batch, one_more, sound_then, undone}
 use Rattle.iddqd_id.proofs.MapLemmas.{AreLawful-are, some_are}
 use Rattle.iddqd_id.proofs.map.IdHashMap.extend_unique.Goals as goal
 
@@ -43,6 +43,7 @@ returns-in-Err g c =
         taken = why.taken ∙ back.key (has g.T.IdHashItem g.T.Key.PartialEq.eq (g.T.IdHashItem.key c.in-Some.item));
       };
       sound = back.sound;
+      most = omega (arith, grown_for batch _ c.in-Some.item failed.most, left.loses.same_room, ap length back.all, length-append c.loop-item.yielded (c.in-Some.item ∷ []));
       grows_unless = GrowsUnless-left batch.room _ nearer failed.grows_unless left.loses.same_room left.loses.same_builder;
     }
 
@@ -53,3 +54,6 @@ returns-clause-sound g c =
 
 pub returns-clause-grows_unless : goal.returns-clause-grows_unless
 returns-clause-grows_unless g c = GrowsUnless-so_far c.loop-item.invariant.batch.room
+
+pub returns-clause-most : goal.returns-clause-most
+returns-clause-most g c = let batch = c.loop-item.invariant.batch in omega (arith, batch.most, all_are batch)

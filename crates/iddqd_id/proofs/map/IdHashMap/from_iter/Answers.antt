@@ -14,7 +14,7 @@ returns-in_err-extend-clause-refused g c =
     at_err c.from_residual.result c.in_err-extend.field-0.0 _ (search rules)
     (GivesThen-weaker g.I.IntoIterator.into_iter_gives g.I.IntoIter.Iterator.next_gives c.args.iter x _ _
     (λ xs made. conflicts_of-none ranks (bag c.extend.new.self) (with_items ranks [] xs) x
-    (subst (λ (l : List g.row.T.Denot). IsPermutation (bag c.extend.new.self) (with_items ranks l xs)) c.default-map.ensures.empty made.0) c.in_err-extend.ensures.full.free)
+    (subst (λ (l : List g.row.T.Denot). IsPermutation (bag c.extend.new.self) (with_items ranks l xs)) c.default-map.ensures.empty made.items) c.in_err-extend.ensures.full.free)
     c.in_err-extend.ensures.refused)
 
 pub returns-clause-all : goal.returns-clause-all

@@ -10,7 +10,7 @@ use Rattle.iddqd_id.proofs.map.IdHashMap.insert_noted.Goals as goal
 pub returns-clause-gains : goal.returns-clause-gains
 returns-clause-gains g c =
     let made = c.make_room.ensures in
-    Gains-put _ _ _ made.slots made.no_less_room made.same_room made.builder _ _ _ c.insert_into-slot.ensures.puts_at
+    Gains-put _ _ _ made.slots made.no_less_room made.same_room made.builder _ _ _ c.insert_into-slot.ensures.puts_at made.most
 
 pub returns-clause-grows_unless : goal.returns-clause-grows_unless
 returns-clause-grows_unless g c =

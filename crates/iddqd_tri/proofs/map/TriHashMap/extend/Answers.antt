@@ -1,5 +1,5 @@
 -- Made by tests/widths from crates/iddqd_bi/proofs/map/BiHashMap/extend/Answers.antt: change that file.
-use Rattle.std.proofs.Common.{rules}
+use Rattle.std.proofs.Common.{arith, rules}
 use Rattle.std.proofs.iter.Next.{on}
 use Rattle.iddqd_store.specs.Map.State.{state_of}
 use Rattle.iddqd_store.proofs.MapLemmas.Extending.{ExtendsTo-push}
@@ -16,7 +16,7 @@ loop-item-preserved g c =
       callable = next.0;
       ending = next.1;
       extends = ExtendsTo-push g.T.Ranked.ranks (state_of c.args.self.now) (state_of c.loop-item.self) (state_of c.insert_overwrite_counted.new.self)
-          c.loop-item.yielded c.in-Some.item so_far.extends put.items put.fits put.no_less_room;
+          c.loop-item.yielded c.in-Some.item _ so_far.extends put.items put.fits put.no_less_room put.most;
       room = HasRoomOn-overwrites so_far.room _ next.2 put;
     }
 
@@ -25,7 +25,12 @@ pub loop-item-init : goal.loop-item-init
 loop-item-init g c = record {
   callable = search rules;
   ending = search rules;
-  extends = search rules;
+  extends = record {
+    items = search rules;
+    fits_on_the_way = search rules;
+    no_less_room = search rules;
+    most = omega (arith, c.grow.ensures.room.most, c.at_once.ensures.most, c.len.ensures.value);
+  };
   room = record { no_less_room = search rules; fits = search rules; same_builder = search rules };
 }
 

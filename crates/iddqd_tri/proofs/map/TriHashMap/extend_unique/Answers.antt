@@ -1,8 +1,8 @@
 -- Made by tests/widths from crates/iddqd_bi/proofs/map/BiHashMap/extend_unique/Answers.antt: change that file.
-use Rattle.std.proofs.Common.{rules, sym, ◌∙◌}
+use Rattle.std.proofs.Common.{[], ◌∷◌, ap, arith, length, length-append, rules, sym, ◌∙◌}
 use Rattle.std.proofs.iter.Next.{on}
 use Rattle.iddqd_tri.specs.Keys.{has1, has2, has3}
-use Rattle.iddqd_store.proofs.MapLemmas.Fitting.{GrowsUnless-left, GrowsUnless-so_far, no_batch, one_more, sound_then, undone}
+use Rattle.iddqd_store.proofs.MapLemmas.Fitting.{GrowsUnless-left, GrowsUnless-so_far, all_are, grown_for, no_batch, one_more, sound_then, undone}
 use Rattle.iddqd_tri.proofs.MapLemmas.{AreLawful-are, some_are}
 use Rattle.iddqd_tri.proofs.map.TriHashMap.extend_unique.Goals as goal
 
@@ -45,6 +45,7 @@ returns-in-Err g c =
         taken3 = why.taken3 ∙ back.key (has3 g.T.TriHashItem g.T.K3.PartialEq.eq (g.T.TriHashItem.key3 c.in-Some.item));
       };
       sound = back.sound;
+      most = omega (arith, grown_for batch _ c.in-Some.item failed.most, left.loses.same_room, ap length back.all, length-append c.loop-item.yielded (c.in-Some.item ∷ []));
       grows_unless = GrowsUnless-left batch.room _ nearer failed.grows_unless left.loses.same_room left.loses.same_builder;
     }
 
@@ -55,3 +56,6 @@ returns-clause-sound g c =
 
 pub returns-clause-grows_unless : goal.returns-clause-grows_unless
 returns-clause-grows_unless g c = GrowsUnless-so_far c.loop-item.invariant.batch.room
+
+pub returns-clause-most : goal.returns-clause-most
+returns-clause-most g c = let batch = c.loop-item.invariant.batch in omega (arith, batch.most, all_are batch)

@@ -1,6 +1,6 @@
 -- Made by tests/widths from crates/iddqd_bi/proofs/map/BiHashMap/from_iter_unique/Answers.antt: change that file.
-use Rattle.std.proofs.Common.{◌∙◌, [], refl, rules}
-use Rattle.std.proofs.lemmas.List.Sorted.{IsPermutation-refl}
+use Rattle.std.proofs.Common.{◌∙◌, [], ap, arith, length, refl, rules}
+use Rattle.std.proofs.lemmas.List.Sorted.{IsPermutation-refl, length_permutation}
 use Rattle.iddqd_store.specs.Map.{bag}
 use Rattle.iddqd_store.proofs.BagLemmas.Building.{AddsTo-push, HasPlaceFor-free, RefusesFor-found}
 use Rattle.iddqd_store.proofs.MapLemmas.Places.{stand_in}
@@ -12,6 +12,7 @@ loop-item-init g c = record {
   callable = search rules;
   ending = search rules;
   added = ([], refl, rw (c.grow.ensures.slots, c.default-map.ensures.empty) (IsPermutation-refl []));
+  most = omega (arith, c.grow.ensures.room.most, c.at_once.ensures.most, ap length c.default-map.ensures.empty, c.default-map.ensures.capacity);
   builder = rw c.grow.ensures.room.same_builder c.default-map.ensures.builder;
 }
 
@@ -23,6 +24,7 @@ loop-item-preserved g c =
       ending = search rules;
       added = AddsTo-push g.T.Ranked.ranks [] (bag c.loop-item.map) (bag c.insert_or_refuse.new.self) c.loop-item.yielded c.in-Some.item
           c.loop-item.invariant.added (rw g.met.T.Ranked.ranks_are put.free) put.gains.items;
+      most = omega (arith, c.loop-item.invariant.most, put.gains.most, length_permutation _ _ put.gains.items);
       builder = rw put.gains.same_builder c.loop-item.invariant.builder;
     }
 
