@@ -3,9 +3,9 @@ use Rattle.std.specs.Prelude.{◌≡◌, ℕ, List, [], ◌∷◌, length, Ok, E
 use Rattle.std.proofs.Common.{refl, ap, arith, get_or}
 use Rattle.std.proofs.lemmas.List.Sorted.{IsPermutation-refl, length_permutation}
 use Rattle.iddqd_store.proofs.BagLemmas.Building.{IsSound-adds}
-use Rattle.iddqd_store.proofs.BagLemmas.Rows.{Item, pairs, m2}
+use Rattle.test_store.proofs.BagRows.{Item, pairs, m2}
 use Rattle.iddqd_store.proofs.BagLemmas.Steps.{IsSound-nil}
-use Rattle.iddqd_commands.proofs.StepRows.{state}
+use Rattle.test_store.proofs.StepRows.{state}
 use Rattle.iddqd_store.specs.Bag.{IsSound, adds}
 use Rattle.iddqd_commands.specs.Reply.{done, extend_refused}
 use Rattle.iddqd_store.specs.Map.State.{State}

@@ -3,7 +3,7 @@ use Rattle.std.specs.Prelude.{◌≡◌, ℕ, ◌==◌, zero, suc, Bool, true, f
 use Rattle.std.proofs.Common.{refl, ap, arith, get_or}
 use Rattle.std.proofs.lemmas.List.Sorted.{IsPermutation-refl, length_permutation}
 use Rattle.iddqd_store.proofs.BagLemmas.Exchanges.{IsPermutation-flip}
-use Rattle.iddqd_store.proofs.BagLemmas.Rows.{Item, pairs, m2}
+use Rattle.test_store.proofs.BagRows.{Item, pairs, m2}
 use Rattle.iddqd_commands.specs.Reply.{done, duplicate, displaced, found, present, taken, memory, refused, size, items, kept, key, absent, absent_data}
 use Rattle.iddqd_store.specs.Map.State.{State, FitsOnTheWay, empty_state}
 use Rattle.iddqd_commands.specs.Step.{Fits, InsertsUnique, InsertsOverwrite, Gets, Tells, Removes, Reserves, ShrinksTo, Clears, Sizes, Lists}

@@ -7,7 +7,7 @@ use Rattle.std.proofs.lemmas.List.Elements.{length_all_zip}
 use Rattle.std.proofs.lemmas.List.Sorted.{IsPermutation-refl, length_permutation, sum_by-IsPermutation}
 use Rattle.std.proofs.lemmas.Bool.{false≢true, true≢false}
 use Rattle.iddqd_store.proofs.BagLemmas.Exchanges.{IsPermutation-flip}
-use Rattle.iddqd_store.proofs.BagLemmas.Rows.{Item, pairs}
+use Rattle.test_store.proofs.BagRows.{Item, pairs}
 use Rattle.iddqd_store.specs.Bag.{IsCopy, Keeps, add}
 use Rattle.iddqd_store.specs.Bag.Building.{AddsTo, RefusesFor, HasPlaceFor}
 use Rattle.iddqd_store.specs.Bag.Storing.{RewritesAll}
