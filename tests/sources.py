@@ -73,7 +73,7 @@ def libraries(path="crates.txt"):
 KINDS = {
     "iddqd_store": "store", "iddqd_id": "hash map", "iddqd_bi": "hash map", "iddqd_tri": "hash map", "iddqd_order": "order", "iddqd_ord": "ordered map", "iddqd_sorted": "sorted map",
     "iddqd_commands": "commands", "iddqd_commands_bi": "commands", "iddqd_commands_tri": "commands",
-    "iddqd_serde": "serde", "iddqd_serde_ord": "serde", "iddqd_serde_sorted": "serde",
+    "iddqd_serde": "serde",
     "iddqd_text": "text program", "iddqd_run": "text program",
 }
 

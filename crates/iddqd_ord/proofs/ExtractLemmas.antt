@@ -67,9 +67,6 @@ module _ {T : Type 0} (m n : OrdMap T) (p to : Place) (x : T) (within : position
     lists = sym (take-append-drop (position n.blocks to) (items n));
   }
 
-pub none_popped : {T : Type 0} (m : OrdMap T) (at : Place) → length (items m) ≤ position m.blocks at → PopsFrom m at None m at
-none_popped m at past = record { comes = refl; before = refl; none_left = drop_all (position m.blocks at) (items m) past; lists = sym (take-append-drop (position m.blocks at) (items m)) }
-
 module _ {F T : Type 0} (step : F → T → Bool → F → Type 0) where
   Rejects-on : (f : F) (xs : List T) (h : F) (x : T) (k : F) → Rejects step f xs h → step h x false k → Rejects step f (xs ++ x ∷ []) k
   Rejects-on f [] h x k is called = (k, subst (λ (q : F). step q x false k) (sym is) called, refl)

@@ -12,11 +12,6 @@ use Rattle.std.proofs.lemmas.Option.{slice_get-get_or}
 use Rattle.iddqd_order.specs.Search.{IsSplit}
 use Rattle.iddqd_ord.specs.Ordered.{IsRising}
 
-pub from_eq : (r : Ordering) → is_eq r ≡ true → r ≡ Equal
-from_eq Less e = absurd (false≢true e)
-from_eq Equal e = refl
-from_eq Greater e = absurd (false≢true e)
-
 module _ {T K : Type 0} {cmp : K → K → Ordering} (o : IsTotalOrder cmp) (key : T → K) (compare : T → Ordering) (r : IsRising cmp key compare) (x : T) (here : compare x ≡ Equal) where
   lower : (y : T) (c : Ordering) → cmp (key y) (key x) ≡ c → compare y ≡ Less → cmp (key y) (key x) ≡ Less
   lower y Less is e = is

@@ -24,9 +24,6 @@ use Rattle.iddqd_order.proofs.FilterLemmas.{found-split}
 Some-injective : {X : Type 0} {x y : X} → Some x ≡ Some y → x ≡ y
 Some-injective e = cc
 
-same_head : {X : Type 0} {x y : X} → x ∷ [] ≡ y ∷ [] → x ≡ y
-same_head e = cc
-
 -- within a list there is an item
 pub item_there : {T : Type 0} (xs : List T) (i : ℕ) → i < length xs → (x : T) × (slice_get xs i ≡ Some x)
 item_there [] i lt = absurd (omega arith)
@@ -118,9 +115,6 @@ module _ {T : Type 0} (compare : T → Ordering) (xs : List T) (i : ℕ) (s : Is
     -- it is the only one that passes
     pub found_only : IsOnly (λ y. is_eq (compare y)) xs (Some x)
     found_only = found-split compare xs i s x read
-
-    pub found_same : (y : T) → IsOnly (λ y. is_eq (compare y)) xs (Some y) → x ≡ y
-    found_same y only = same_head (found_only ∙ sym only)
 
     -- a function that leaves the others as they are changes it alone
     pub found_mapped : (f : T → T) → ((y : T) → is_eq (compare y) ≡ false → f y ≡ y) → map f xs ≡ set xs i (f x)

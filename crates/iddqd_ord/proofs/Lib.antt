@@ -9,7 +9,6 @@ pub mod LentLemmas
 pub mod MatchLemmas
 pub mod MergeLemmas
 pub mod OrderLemmas
-pub mod RangeLemmas
 pub mod RefLemmas
 pub mod RekeyLemmas
 pub mod RewriteLemmas

@@ -60,9 +60,6 @@ parts_between m from to left b =
 -- the items from one place up to another, which are counted
 module _ {T : Type 0} (m : OrdMap T) (from to : Place) (first : IsPlace m.blocks from) (last : IsPlace m.blocks to) (left : ℕ)
     (counted : left ≡ length (slice_range (items m) (position m.blocks from) (position m.blocks to))) where
-  pub none_between : left ≡ 0 → IsBetween m.blocks from from left
-  none_between none = record { first = first; last = first; count = omega (arith, none) }
-
   pub some_between : (left ≡ 0 → ⊥) → IsBetween m.blocks from to left
   some_between some =
       let i = position m.blocks from in
@@ -78,12 +75,6 @@ module _ {T : Type 0} (m : OrdMap T) (from to : Place) (first : IsPlace m.blocks
       taken zero xs = refl
       taken (suc n) [] = refl
       taken (suc n) (x ∷ xs) = ap (λ (q : List T). x ∷ q) (taken n xs)
-
--- none is left, so the items were passed from the front or from behind
-pub all_between : {T : Type 0} (m : OrdMap T) (from to : Place) (left : ℕ) → IsBetween m.blocks from to left → left ≡ 0 → items m ≡ take (position m.blocks from) (items m) ++ drop (position m.blocks to) (items m)
-all_between m from to left b none =
-    let same : position m.blocks from ≡ position m.blocks to = omega (arith, b.count, none) in
-    sym (take-append-drop (position m.blocks from) (items m)) ∙ ap (λ (n : ℕ). take (position m.blocks from) (items m) ++ drop n (items m)) same
 
 -- a step from the front
 module _ {T : Type 0} (xs : List T) (i k left : ℕ) (x : T) (found : slice_get xs i ≡ Some x) (some : 0 < left) (count : i + left ≡ k) where

@@ -1,5 +1,5 @@
 -- Calling a closure at each item of a list in turn.
-use Rattle.std.proofs.Common.{◌≡◌, ℕ, suc, ◌+◌, ◌-◌, ◌<◌, ◌≤◌, List, [], ◌∷◌, ◌++◌, Option, Some, None, length, set, take, drop, refl, sym, ap, ◌∙◌, subst, arith, append_assoc, drop-cons}
+use Rattle.std.proofs.Common.{◌≡◌, ℕ, suc, ◌+◌, ◌-◌, ◌≤◌, List, [], ◌∷◌, ◌++◌, Option, Some, None, length, set, take, drop, refl, sym, ap, ◌∙◌, subst, arith, append_assoc, drop-cons}
 use Rattle.std.specs.Prelude.{slice_get, MatchOption}
 use Rattle.std.specs.Option.{option_and_then}
 use Rattle.std.proofs.lemmas.List.{drop-set-lt, take_more_set, drop_all, take_all, append-nil}
@@ -17,9 +17,6 @@ pub drop_left : {T : Type 0} (now new : List T) (i j : ℕ) (y : T) → new ≡ 
 drop_left now new i j y is next =
     let one : i + 1 ≡ suc i = omega arith in
     (λ t. drop (next t) (is t)) ∙ drop-set-lt (i + 1) now i y (omega arith) ∙ ap (λ (n : ℕ). drop n now) one
-
-pub done_next : {T : Type 0} (now new : List T) (i j : ℕ) (y : T) → i < length now → new ≡ set now i y → j ≡ i + 1 → take j new ≡ take i now ++ y ∷ []
-done_next now new i j y within is next = (λ t. take (next t) (is t)) ∙ take_more_set now i y within
 
 module _ {F T D : Type 0} (step : F → T → D → F → Type 0) (put : T → D → T) where
   -- The closure was called at the items before the index `i`, and what it returned was written. What it makes of the
@@ -66,11 +63,3 @@ last_item m (Some p) long is =
 pub all_passed : {T : Type 0} (m : OrdMap T) (r : Option Place) → ((p : Place) → r ≡ Some p → ⊥) → length (items m) ≤ index_of m.blocks r
 all_passed m None none = omega arith
 all_passed m (Some p) none = absurd (none p refl)
-
--- the items from the next place on
-pub rest_first : {T : Type 0} (m : OrdMap T) (r : Option Place) (p : Place) (x : T) → r ≡ Some p → slice_get (items m) (position m.blocks p) ≡ Some x
-    → drop (index_of m.blocks r) (items m) ≡ x ∷ drop (suc (position m.blocks p)) (items m)
-rest_first m r p x is found = rw is (drop-next (items m) (position m.blocks p) x found)
-
-pub rest_none : {T : Type 0} (m : OrdMap T) (r : Option Place) → r ≡ None → drop (index_of m.blocks r) (items m) ≡ []
-rest_none m r is = rw is (drop_all (length (line m.blocks)) (items m) (omega arith))

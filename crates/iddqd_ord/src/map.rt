@@ -8,6 +8,7 @@ mod build;
 mod capacity;
 mod clone;
 mod collect;
+mod collection;
 mod compare;
 mod data;
 mod differing;

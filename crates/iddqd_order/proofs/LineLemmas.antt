@@ -3,7 +3,7 @@ use Rattle.std.proofs.Common.{◌≡◌, ℕ, zero, suc, ◌+◌, ◌-◌, ◌*�
 use Rattle.std.specs.Prelude.{slice_get, slice_range}
 use Rattle.std.proofs.lemmas.Option.{get_or_from_slice_get, slice_get_read}
 use Rattle.std.specs.List.{insert, remove}
-use Rattle.std.proofs.lemmas.List.{append-nil, length-append, length-map, map-append, map-set, take-map, drop-map, get_or-map, set_split, take_more, take_all, get_or_append_left, get_or-append-add, take-append-le, drop-append-le, drop_all, length-set, get_or-set_same, get_or-set_other}
+use Rattle.std.proofs.lemmas.List.{append-nil, length-append, length-map, map-append, map-set, take-map, drop-map, get_or-map, set_split, take_more, take_all, get_or_append_left, get_or-append-add, length-set, get_or-set_same, get_or-set_other}
 use Rattle.std.proofs.lemmas.List.Elements.{All-get_or, All-nil, All-head, All-tail, All-append, All-weaker, All-cons, All-take, All-drop}
 use Rattle.std.proofs.lemmas.List.Edits.{insert-append_left, insert-append_right, remove-append_left, remove-append_right, length-remove, get_or-remove_below}
 use Rattle.iddqd_order.specs.Row.{BlockValue, RowValue, entries_of, entry_lists, line, block_at, start_of, IsHeld, IsFilled, IsRow, IsMoved, KeepsEntries}
@@ -308,12 +308,6 @@ module _ {E : Type 0} where
         let joined = parts ∙ ap (λ (q : List E). q ++ next.entries) here ∙ ap (λ (q : List E). block_at (entry_lists values) at ++ q) there in
         IsMoved-as (entry_lists values) _ at (length moved.entries) (length more.entries) a b many few
         (subst (λ (q : List (List E)). IsMoved (entry_lists values) q at (length moved.entries) (length more.entries)) (sym same) (IsMoved-passed (entry_lists values) at moved.entries more.entries in_row joined))
-
-  pub take_at : (xs ys : List E) (i : ℕ) → i ≡ length xs → take i (xs ++ ys) ≡ xs
-  take_at xs ys i is = rw is (take-append-le (length xs) xs ys (omega arith) ∙ take_all (length xs) xs (omega arith))
-
-  pub drop_at : (xs ys : List E) (i : ℕ) → i ≡ length xs → drop i (xs ++ ys) ≡ ys
-  drop_at xs ys i is = rw is (drop-append-le (length xs) xs ys (omega arith) ∙ ap (λ (q : List E). q ++ ys) (drop_all (length xs) xs (omega arith)))
 
   -- how many entries two blocks have that are joined
   pub joined_lengths : (values left : List (BlockValue E)) (b : ℕ) (next head : BlockValue E) → b + 1 < length values → left ≡ remove values (b + 1) → next ≡ get_or values (b + 1) next → head ≡ get_or left b head

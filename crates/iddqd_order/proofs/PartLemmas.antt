@@ -1,12 +1,12 @@
 -- A part of the list that a row stands for.
-use Rattle.std.proofs.Common.{◌≡◌, ℕ, zero, suc, ◌+◌, ◌-◌, ◌<◌, ◌≤◌, List, [], ◌∷◌, ◌++◌, length, take, drop, refl, sym, ap, ◌∙◌, arith, zero-add, inl, inr}
+use Rattle.std.proofs.Common.{◌≡◌, ℕ, zero, suc, ◌+◌, ◌-◌, ◌<◌, ◌≤◌, List, [], ◌∷◌, ◌++◌, length, take, drop, sym, ap, ◌∙◌, arith, zero-add, inl, inr}
 use Rattle.std.specs.Prelude.{slice_range}
 use Rattle.std.proofs.lemmas.Bool.{cases_lt}
-use Rattle.std.proofs.lemmas.List.{append-nil, length-append, length-drop, take_all, drop-append-le, take-append-le, take-append-drop, get_or_past, get_or-drop}
+use Rattle.std.proofs.lemmas.List.{append-nil, length-append, length-drop, take_all, drop-append-le, take-append-le, get_or_past, get_or-drop}
 use Rattle.std.proofs.Math.Seq.{drop-append-add, take-append-add}
 use Rattle.iddqd_order.specs.declared.place.Place.{Place}
 use Rattle.iddqd_order.specs.Row.{line, block_at, start_of, position, IsPlace}
-use Rattle.iddqd_order.proofs.LineLemmas.{line-append, line_parts, start_of-next, start_of-all, drop_at}
+use Rattle.iddqd_order.proofs.LineLemmas.{line-append, line_parts, start_of-next, start_of-all}
 use Rattle.iddqd_order.proofs.PlaceLemmas.{start_of-le}
 
 pub range_none : {X : Type 0} (xs : List X) (i j : ℕ) → j ≤ i → slice_range xs i j ≡ []
@@ -15,13 +15,6 @@ range_none {X} xs i j le =
     ap (λ (n : ℕ). take n (drop i xs)) none
 
 module _ {E : Type 0} (row : List (List E)) where
-  -- the list from a block on
-  drop_start : (c : ℕ) → drop (start_of row c) (line row) ≡ line (drop c row)
-  drop_start c =
-      ap (λ (q : List (List E)). drop (start_of row c) (line q)) (sym (take-append-drop c row))
-      ∙ ap (λ (q : List E). drop (start_of row c) q) (line-append (take c row) (drop c row))
-      ∙ drop_at (line (take c row)) (line (drop c row)) (start_of row c) refl
-
   -- a part of one block
   pub range_block : (b i j : ℕ) → j ≤ length (block_at row b) → slice_range (line row) (start_of row b + i) (start_of row b + j) ≡ slice_range (block_at row b) i j
   range_block b i j le = elim (cases_lt i j) [

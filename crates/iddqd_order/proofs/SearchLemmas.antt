@@ -142,9 +142,6 @@ module _ {E : Type 0} (order : E → Ordering) where
   }
 
   module _ (memory : ℕ) (row : List (List E)) (r : IsRow memory row) (up : IsSearchable order (line row)) where
-    flat : ℕ → Ordering
-    flat i = order_at order (slice_get (line row) i)
-
     first : ℕ → Ordering
     first b = order_at order (slice_get (block_at row (b + 1)) 0)
 

@@ -1,7 +1,8 @@
 -- One item more was read, and items are written behind their keys.
-use Rattle.std.proofs.Common.{◌≡◌, ℕ, ◌+◌, suc, List, [], ◌∷◌, subst, sym, arith}
+use Rattle.std.proofs.Common.{◌≡◌, ℕ, ◌+◌, suc, List, [], ◌∷◌, subst, sym, ap, arith}
 use Rattle.std.specs.Prelude.{map}
 use Rattle.serde.specs.Event.{Log, WritesEach}
+use Rattle.iddqd_store.specs.Collection.{VisitsEach}
 use Rattle.iddqd_serde.specs.Reading.{HasRead}
 
 pub HasRead-more : {Reader : Type 0} (begins follows : Reader → Reader → Type 0) (n more : ℕ) (old before at new : Reader)
@@ -15,3 +16,9 @@ pub WritesEach-map : {A B : Type 0} (w : B → Log → Log → Type 0) (f : A �
     → WritesEach (λ x. w (f x)) xs old new → WritesEach w (map f xs) old new
 WritesEach-map w f [] old new h = h
 WritesEach-map w f (x ∷ xs) old new h = (h.0, h.1, WritesEach-map w f xs h.0 new h.2)
+
+-- what visits of a serializer write is what is written of the list
+pub WritesEach-visits : {A Out : Type 0} (w : A → Log → Log → Type 0) (written : Out → Log) (xs : List A) (old new : Out)
+    → VisitsEach (λ x before after. w x (written before) (written after)) xs old new → WritesEach w xs (written old) (written new)
+WritesEach-visits w written [] old new h = ap written h
+WritesEach-visits w written (x ∷ xs) old new h = (written h.0, h.1, WritesEach-visits w written xs h.0 new h.2)

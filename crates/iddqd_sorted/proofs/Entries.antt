@@ -1,5 +1,5 @@
 -- The items of entries.
-use Rattle.std.proofs.Common.{◌≡◌, ◌≢◌, ℕ, zero, suc, ◌+◌, ◌-◌, ◌<◌, ◌≤◌, All, List, [], ◌∷◌, ◌++◌, Option, Some, None, IsSome, length, get_or, set, take, drop, refl, sym, ap, ◌∙◌, subst, arith}
+use Rattle.std.proofs.Common.{◌≡◌, ◌≢◌, ℕ, zero, suc, ◌+◌, ◌-◌, ◌<◌, ◌≤◌, All, List, [], ◌∷◌, ◌++◌, Option, Some, None, IsSome, length, get_or, take, drop, refl, sym, ap, ◌∙◌, subst, arith}
 use Rattle.std.specs.Prelude.{slice_range}
 use Rattle.std.proofs.lemmas.List.{length-take, length-drop, get_or-take, get_or-drop}
 use Rattle.std.specs.List.{cons_option, filter_map, insert, remove}
@@ -56,22 +56,6 @@ module _ {E T : Type 0} where
   pub items-same : (old new : E → Option T) (es : List E) → ((i : ℕ) (d : E) → i < length es → new (get_or es i d) ≡ old (get_or es i d)) → filter_map new es ≡ filter_map old es
   items-same old new [] same = refl
   items-same old new (e ∷ es) same = rw (same 0 e (omega arith), items-same old new es (λ i d lt. same (suc i) d (omega arith))) refl
-
-  -- another entry in the place of one, or another item in its slot
-  pub items-set : (old new : E → Option T) (es : List E) (i : ℕ) (n : E) (y : T) → AllLive old es → i < length es → new n ≡ Some y
-      → ((j : ℕ) (d : E) → j < length es → j ≢ i → new (get_or es j d) ≡ old (get_or es j d)) → filter_map new (set es i n) ≡ set (filter_map old es) i y
-  items-set old new [] i n y live lt is others = absurd (omega arith)
-  items-set old new (e ∷ es) zero n y live lt is others = by_slot (old e) refl (live 0 e (omega arith))
-    where
-      by_slot : (o : Option T) → old e ≡ o → IsSome (old e) → filter_map new (set (e ∷ es) zero n) ≡ set (filter_map old (e ∷ es)) zero y
-      by_slot None at_e here = absurd (false≢true (rw at_e at here))
-      by_slot (Some z) at_e here = rw (is, at_e) (ap (λ (q : List T). y ∷ q) (items-same old new es (λ j d less. others (suc j) d (omega arith) (λ same. absurd (omega (arith, same))))))
-  items-set old new (e ∷ es) (suc i) n y live lt is others =
-      by_slot (old e) refl (live 0 e (omega arith)) (items-set old new es i n y (live-tail old e es live) (omega arith) is (λ j d less other. others (suc j) d (omega arith) (λ same. other (omega (arith, same)))))
-    where
-      by_slot : (o : Option T) → old e ≡ o → IsSome (old e) → filter_map new (set es i n) ≡ set (filter_map old es) i y → filter_map new (set (e ∷ es) (suc i) n) ≡ set (filter_map old (e ∷ es)) (suc i) y
-      by_slot None at_e here more = absurd (false≢true (rw at_e at here))
-      by_slot (Some z) at_e here more = rw (others 0 e (omega arith) (λ same. absurd (omega (arith, same))), at_e) (ap (λ (q : List T). z ∷ q) more)
 
   -- one more entry at the end
   pub items-last : (item : E → Option T) (es : List E) (e : E) (y : T) → item e ≡ Some y → filter_map item (es ++ e ∷ []) ≡ filter_map item es ++ y ∷ []

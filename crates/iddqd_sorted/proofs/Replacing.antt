@@ -1,11 +1,9 @@
 -- An item that takes the place of the only one with its keys.
 use Rattle.std.specs.Prelude.{◌≡◌, ◌<◌, Bool, true, not, ◌||◌, List, [], ◌∷◌, ◌++◌, length, filter, IsPermutation}
-use Rattle.std.proofs.Common.{refl, sym, subst, ◌∙◌, arith}
+use Rattle.std.proofs.Common.{refl, sym, subst, arith}
 use Rattle.std.proofs.lemmas.Bool.{and_parts}
-use Rattle.std.proofs.lemmas.Map.Keys.{IsDistinct-head}
 use Rattle.std.proofs.lemmas.List.Sorted.{IsPermutation-filter_both, length_permutation}
-use Rattle.iddqd_store.specs.Bag.{Ranks, AreLawful, IsSound, agrees, conflicts_of, do_conflict}
-use Rattle.iddqd_store.proofs.BagLemmas.Sound.{IsSound-IsPermutation, each_weaker, none_pass}
+use Rattle.iddqd_store.specs.Bag.{Ranks, AreLawful, agrees, do_conflict}
 
 module _ {T : Type 0} where
   -- the only one that passes, and those that do not
@@ -21,9 +19,3 @@ module _ {T : Type 0} where
   same_conflicts (agree ∷ ranks) laws x y same z =
       let both = and_parts (agree x y) (agrees ranks x y) same in
       λ t. laws.0.congr x y z both.0 t || same_conflicts ranks laws.1 x y both.1 z t
-
-  -- an item with the keys of one that left conflicts with none of the others
-  pub conflicts_of-again : (ranks : Ranks T) → AreLawful ranks → (xs rest : List T) (f y : T) → IsSound ranks xs → IsPermutation xs (f ∷ rest) → agrees ranks y f ≡ true → conflicts_of ranks rest y ≡ []
-  conflicts_of-again ranks laws xs rest f y sound left same =
-      let apart = IsDistinct-head (do_conflict ranks) f rest (IsSound-IsPermutation ranks laws xs (f ∷ rest) left sound) in
-      none_pass (do_conflict ranks y) rest (each_weaker _ _ (λ z other. same_conflicts ranks laws y f same z ∙ other) rest apart)

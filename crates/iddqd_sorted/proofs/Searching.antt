@@ -34,10 +34,6 @@ module _ {T K Key : Type 0} (sort : T → K) {cmp : K → K → Ordering} (sorts
         sym (key_at_index all sort slots es r i d y lt k) ∙ ap (cmp (sort (get_or (items_in slots es) i y))) sort_is in
         λ t. ordering_then (level t) (order_at (λ z. cmp_key (key z) (key_is t)) (here t))
 
-    -- an entry compares as its item
-    pub item_compared : (i : ℕ) (e : Entry K) (y : T) → i < length es → e ≡ get_or es i e → compare e ≡ by_sort sort cmp key cmp_key (get_or (items_in slots es) i y) x
-    item_compared i e y lt is = ap compare is ∙ alike i e y lt
-
     pub item_searchable : IsSearchable compare es
     item_searchable = searchable es (items_in slots es) as_many compare (λ y. by_sort sort cmp key cmp_key y x) alike r.ascending (IsRising-item all x)
 

@@ -175,11 +175,6 @@ both_eq Less = refl
 both_eq Equal = refl
 both_eq Greater = refl
 
-lt_not_ge : (o : Ordering) → is_lt o ≡ true → is_ge o ≡ false
-lt_not_ge Less e = refl
-lt_not_ge Equal e = absurd (false≢true e)
-lt_not_ge Greater e = absurd (false≢true e)
-
 -- if no item is lower, all are not lower
 pub all_at_least : {T : Type 0} (at : T → Ordering) (xs : List T) → filter (λ x. is_lt (at x)) xs ≡ [] → filter (λ x. is_ge (at x)) xs ≡ xs
 all_at_least at [] none = refl
@@ -189,6 +184,3 @@ all_at_least {T} at (x ∷ xs) none = by_order (at x) refl (all_at_least at xs)
     by_order Less is more = absurd (cc (rw is at none))
     by_order Equal is more = rw is (ap (λ (q : List T). x ∷ q) (more (rw is at none)))
     by_order Greater is more = rw is (ap (λ (q : List T). x ∷ q) (more (rw is at none)))
-
-pub filter-lower : {T : Type 0} (at : T → Ordering) (x : T) (xs : List T) → is_lt (at x) ≡ true → filter (λ y. is_ge (at y)) (x ∷ xs) ≡ filter (λ y. is_ge (at y)) xs
-filter-lower at x xs lt = rw (lt_not_ge (at x) lt) refl

@@ -10,6 +10,7 @@ mod build;
 mod capacity;
 mod clone;
 mod collect;
+mod collection;
 mod compare;
 mod emptied;
 mod ends;

@@ -1,5 +1,4 @@
 -- Lemmas on bags: which are sound, what each step leaves, what keys find in them, and when two are the same.
-pub mod BuildRows
 pub mod Building
 pub mod Calling
 pub mod Cancelled
@@ -10,7 +9,6 @@ pub mod Exchanges
 pub mod KeyTests
 pub mod Over
 pub mod Partners
-pub mod Rows
 pub mod Same
 pub mod SameTest
 pub mod Sound

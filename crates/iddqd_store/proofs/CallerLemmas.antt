@@ -7,6 +7,7 @@ pub mod Extracting
 pub mod Laws
 pub mod Named
 pub mod Updates
+pub mod Visits
 pub mod Walks
 -- as many members conflict as are listed, and an item that conflicts with none conflicts with none in another order
 pub use Rattle.iddqd_store.proofs.BagLemmas.Steps.{length-conflicts_of}

@@ -13,7 +13,6 @@ pub mod Remove
 pub mod Renumber
 pub mod Replaces
 pub mod Ring
-pub mod Rows
 pub mod Search
 pub mod Sought
 pub mod Spot

@@ -1,5 +1,6 @@
 pub mod Bag
 pub mod Callers
+pub mod Collection
 pub mod Differing
 pub mod Errors
 pub mod Map

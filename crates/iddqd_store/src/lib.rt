@@ -3,6 +3,7 @@
 //! from here too.
 #![tactic(auto)]
 
+mod collection;
 mod data;
 mod differing;
 mod equivalent;
@@ -18,6 +19,7 @@ mod rows;
 mod short_list;
 mod slot_map;
 
+pub use collection::{Collection, Fillable, Visitor};
 pub use data::{HasData, KeepsKey, KeepsMade, KeepsPair};
 pub use differing::{Difference, ItemPair};
 pub use equivalent::Equivalent;

@@ -1,1 +1,6 @@
+mod BagRows
+mod BuildRows
+mod ExtendUniqueRows
+mod StepRows
+mod TableRows
 mod WrittenRows

@@ -8,7 +8,7 @@ use Rattle.iddqd_store.specs.Bag.{Filters}
 use Rattle.iddqd_store.specs.Bag.Storing.{FilterMapsAll, MapsAll, MapsOne}
 use Rattle.iddqd_store.specs.Map.{Map, bag}
 use Rattle.iddqd_store.specs.Map.Written.{put_where, slots_where}
-use Rattle.iddqd_store.proofs.BagLemmas.Rows.{Item}
+use Rattle.test_store.proofs.BagRows.{Item}
 
 abbrev two : List Item
 two = (1, 10, 0) ∷ (2, 20, 0) ∷ []

@@ -1,18 +1,12 @@
-use Rattle.std.proofs.Common.{◌∙◌, Some, ap, subst, rules}
+use Rattle.std.proofs.Common.{Some, subst}
 use Rattle.std.proofs.lemmas.Result.{on_ok_weaker}
 use Rattle.serde.specs.Event.{Logs, seq_begins}
-use Rattle.serde.proofs.Events.{WritesUpTo-start, WritesUpTo-more, WritesUpTo-all}
-use Rattle.iddqd_store.specs.Slots.{contents}
+use Rattle.iddqd_serde.proofs.Counting.{WritesEach-visits}
 use Rattle.iddqd_serde.proofs.serialize.Goals as goal
-
-pub loop-item-init : goal.loop-item-init
-loop-item-init g c = WritesUpTo-start g.M.Item.Described.writes _ _ _ (c.into_iter-item-iterator.ensures.into_iter_gives ∙ c.values-item-items.ensures.gives ∙ ap contents c.slots.ensures)
-
-pub loop-item-preserved : goal.loop-item-preserved
-loop-item-preserved g c = WritesUpTo-more g.M.Item.Described.writes _ _ _ c.in-Some.item.now _ _ _ c.loop-item.invariant (search rules) c.in_ok-serialize.ensures
 
 pub returns : goal.returns
 returns g c =
-    let begun = subst (λ n. Logs (g.Out.Serializer.written c.args.out.now) (g.Out.Serializer.written c.begin_seq.new.self) (seq_begins (Some n))) c.len.ensures.value c.in_ok-begin_seq.ensures in
-    let each = WritesUpTo-all g.M.Item.Described.writes _ _ _ _ c.loop-item.invariant (search rules) in
+    let written = g.Out.Serializer.written in
+    let begun = subst (λ n. Logs (written c.args.out.now) (written c.begin_seq.new.self) (seq_begins (Some n))) c.item_count.ensures c.in_ok-begin_seq.ensures in
+    let each = WritesEach-visits g.M.Item.Described.writes written _ _ _ c.in_ok-visit_each.ensures in
     on_ok_weaker c.end_seq.result (λ ended. (_, _, begun, each, ended)) c.end_seq.ensures

@@ -1,5 +1,5 @@
 //! Inserting an item whose keys no other has.
-ghost use Rattle.std.specs.Prelude.{◌≡◌, ◌≢◌, ℕ, ◌+◌, ◌*◌, ◌^◌, ◌<◌, ◌≤◌, [], length, map, Some, None, if◌then◌else◌, is_some, is_ok, IsOk, OnOk, OnErr, IfOk, IfErr, IsPermutation};
+ghost use Rattle.std.specs.Prelude.{◌≡◌, ◌≢◌, ℕ, ◌+◌, ◌*◌, ◌^◌, ◌<◌, ◌≤◌, [], ◌∷◌, length, map, Some, None, if◌then◌else◌, is_some, is_ok, IsOk, OnOk, OnErr, IfOk, IfErr, IsPermutation};
 ghost use Rattle.std.specs.List.{insert};
 ghost use Rattle.iddqd_store.specs.Bag.{conflicting, conflicts_of, tests_of};
 ghost use Rattle.iddqd_store.specs.Rank.{walks_within};
@@ -95,6 +95,7 @@ where
         requires free_slots { conflicts_of M.ranks (bag self.old) item ≡ [] }
         requires places { ArePlacesOf (M.hashes self.old.builder) (bag self.old) item (M.spots at) }
         ensures gains { OnOk result (Gains (by_sort M.Item.sort_key M.Item.SortKey.cmp M.first_key M.FirstKey.cmp) wanted self.old item self.new) }
+        ensures gained { OnOk result (IsPermutation (items self.new) (item ∷ items self.old)) }
         ensures granted { length (items self.old) < self.old.capacity → IsOk result }
         ensures handed_back { IfErr result (λ x. x ≡ item) }
         ensures unchanged { OnErr result (self.new ≡ self.old) }

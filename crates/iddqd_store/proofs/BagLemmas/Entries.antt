@@ -1,33 +1,14 @@
 -- What the keys of an entry find in a sound bag.
-use Rattle.std.specs.Prelude.{◌≡◌, ◌<◌, Bool, true, not, List, [], ◌∷◌, ◌++◌, length, filter, IsPermutation}
+use Rattle.std.specs.Prelude.{◌≡◌, ◌<◌, Bool, true, not, List, [], ◌∷◌, ◌++◌, length, filter}
 use Rattle.std.specs.List.{AllByRecursion}
 use Rattle.std.proofs.Common.{refl, sym, ap, subst, ◌∙◌, arith}
-use Rattle.std.proofs.lemmas.Bool.{and_parts}
-use Rattle.iddqd_store.proofs.BagLemmas.Sound.{each_passes, filter_twice, filter_swap, named-IsPermutation, listing-IsPermutation, IsSound-rank}
-use Rattle.iddqd_store.specs.Bag.{Ranks, every_of, listing, all_of, IsSound, unique, entry, entry_of, NamesOne, AreNames}
+use Rattle.iddqd_store.proofs.BagLemmas.Sound.{each_passes, filter_twice, filter_swap}
+use Rattle.iddqd_store.specs.Bag.{every_of, listing, all_of, unique, entry, entry_of}
 
 module _ {T : Type 0} where
   -- the members that pass every test, from those that pass the first
   pub all_of-next : (test : T → Bool) (tests : List (T → Bool)) (bag : List T) → all_of (test ∷ tests) bag ≡ all_of tests (filter test bag)
   all_of-next test tests bag = sym (filter_twice test (every_of tests) bag)
-
-  -- one key names the members that have all keys
-  pub NamesOne-every : (agree : T → T → Bool) (ranks : Ranks T) (tests : List (T → Bool)) → AreNames (agree ∷ ranks) tests → NamesOne agree (every_of tests)
-  NamesOne-every agree ranks [] names = absurd names
-  NamesOne-every agree ranks (test ∷ tests) names =
-      λ x y p q. names.0 x y (and_parts (test x) (every_of tests x) p).0 (and_parts (test y) (every_of tests y) q).0
-
-  pub all_of-IsPermutation : (ranks : Ranks T) (tests : List (T → Bool)) → 0 < length ranks → AreNames ranks tests → (xs ys : List T)
-      → IsSound ranks xs → IsPermutation xs ys → all_of tests xs ≡ all_of tests ys
-  all_of-IsPermutation [] tests some names xs ys sound p = absurd (omega arith)
-  all_of-IsPermutation (agree ∷ ranks) tests some names xs ys sound p =
-      named-IsPermutation agree (every_of tests) (NamesOne-every agree ranks tests names) xs ys (IsSound-rank agree ranks xs sound).0 p
-
-  pub entry-IsPermutation : (ranks : Ranks T) (tests : List (T → Bool)) → 0 < length ranks → AreNames ranks tests → (xs ys : List T)
-      → IsSound ranks xs → IsPermutation xs ys → entry tests xs ≡ entry tests ys
-  entry-IsPermutation ranks tests some names xs ys sound p =
-      ap (λ l. entry_of l (all_of tests xs)) (listing-IsPermutation ranks tests names xs ys sound p)
-      ∙ ap (entry_of (listing tests ys)) (all_of-IsPermutation ranks tests some names xs ys sound p)
 
   -- if no test finds a member, none is listed
   pub listing-none : (tests : List (T → Bool)) (bag : List T) → AllByRecursion (λ test. filter test bag ≡ []) tests → listing tests bag ≡ []

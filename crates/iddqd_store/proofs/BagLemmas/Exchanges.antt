@@ -1,6 +1,6 @@
 -- Lists with the same elements, by exchanges of neighbours.
 use Rattle.std.specs.Prelude.{◌≡◌, ℕ, zero, suc, ◌<◌, Bool, true, false, cond, List, [], ◌∷◌, length, filter, IsPermutation}
-use Rattle.std.specs.List.{AllZip, swap}
+use Rattle.std.specs.List.{swap}
 use Rattle.std.proofs.Common.{refl, arith, get_or, set}
 use Rattle.std.proofs.lemmas.List.Sorted.{IsPermutation-refl, IsPermutation-cons, IsPermutation-trans, IsPermutation-middle, IsPermutation-keeps}
 
@@ -62,29 +62,3 @@ module _ {T : Type 0} where
 
   pub Shuffled-from : (xs ys : List T) → IsPermutation xs ys → Shuffled xs ys
   Shuffled-from xs ys h = IsPermutation-keeps xs (λ l. Shuffled xs l) (Shuffled-refl xs) (λ l i j a b k. then k (Shuffled-swap l i j a b)) ys h
-
--- partners change places with the elements that they belong to
-module _ {A B : Type 0} (R : A → B → Type 0) where
-  follow : {ys zs : List B} → Shuffled ys zs → (xs : List A) → AllZip R xs ys → (ws : List A) × IsPermutation xs ws × AllZip R ws zs
-  follow done [] h = ([], IsPermutation-refl [], h)
-  follow done (x ∷ xs) h = absurd h
-  follow (keep s) [] h = absurd h
-  follow (keep s) (x ∷ xs) h =
-      let rest = follow s xs h.1 in
-      (x ∷ rest.0, IsPermutation-cons x _ _ rest.1, (h.0, rest.2))
-  follow (flip y z ys) [] h = absurd h
-  follow (flip y z ys) (a ∷ []) h = absurd h.1
-  follow (flip y z ys) (a ∷ b ∷ xs) h = (b ∷ a ∷ xs, IsPermutation-flip a b xs, (h.1.0, (h.0, h.1.1)))
-  follow (then s t) xs h =
-      let first = follow s xs h in
-      let second = follow t first.0 first.2 in
-      (second.0, IsPermutation-trans _ _ _ first.1 second.1, second.2)
-
-  pub AllZip-follow : (xs : List A) (ys zs : List B) → AllZip R xs ys → IsPermutation ys zs → (ws : List A) × IsPermutation xs ws × AllZip R ws zs
-  AllZip-follow xs ys zs h p = follow (Shuffled-from ys zs p) xs h
-
-  pub AllZip-flip : (xs : List A) (ys : List B) → AllZip R xs ys → AllZip (λ y x. R x y) ys xs
-  AllZip-flip [] [] h = h
-  AllZip-flip [] (y ∷ ys) h = absurd h
-  AllZip-flip (x ∷ xs) [] h = absurd h
-  AllZip-flip (x ∷ xs) (y ∷ ys) h = (h.0, AllZip-flip xs ys h.1)

@@ -1,35 +1,17 @@
 -- When two bags are the same.
 use Rattle.std.specs.Prelude.{◌≡◌, zero, suc, ◌<◌, Bool, true, false, List, [], ◌∷◌, length, IsPermutation, Contains}
-use Rattle.std.specs.Cmp.{IsEquivalence, IsPartialEquivalence}
+use Rattle.std.specs.Cmp.{IsPartialEquivalence}
 use Rattle.std.specs.List.{AllByRecursion, AllZip}
 use Rattle.std.proofs.Common.{refl, sym, subst, ◌∙◌, arith}
 use Rattle.std.proofs.lemmas.Bool.{false≢true, and_parts}
 use Rattle.std.proofs.lemmas.Map.Keys.{IsDistinct-head, IsDistinct-tail, IsDistinct-cons}
 use Rattle.std.proofs.lemmas.List.Sorted.{IsPermutation-refl, IsPermutation-sym, IsPermutation-cons, IsPermutation-trans, length_permutation, Contains-permutation}
 use Rattle.std.proofs.lemmas.List.Elements.{length_all_zip}
-use Rattle.iddqd_store.proofs.BagLemmas.Exchanges.{AllZip-follow, AllZip-flip, IsPermutation-flip}
+use Rattle.iddqd_store.proofs.BagLemmas.Exchanges.{IsPermutation-flip}
 use Rattle.iddqd_store.proofs.BagLemmas.Sound.{IsSound-IsPermutation, do_conflict-symm}
 use Rattle.iddqd_store.proofs.BagLemmas.Steps.{agrees-do_conflict}
 use Rattle.iddqd_store.specs.Bag.{Ranks, do_conflict, agrees, same_item, IsSound, AreLawful, IsSameBag, IsCopy}
 use Rattle.iddqd_store.proofs.RankLemmas.Index.{Contains-cons}
-
-module _ {A : Type 0} where
-  AllZip-refl : (R : A → A → Type 0) → ((x : A) → R x x) → (xs : List A) → AllZip R xs xs
-  AllZip-refl R h [] = tt
-  AllZip-refl R h (x ∷ xs) = (h x, AllZip-refl R h xs)
-
-  AllZip-weaker : (R Q : A → A → Type 0) → ((x y : A) → R x y → Q x y) → (xs ys : List A) → AllZip R xs ys → AllZip Q xs ys
-  AllZip-weaker R Q f [] [] h = h
-  AllZip-weaker R Q f [] (y ∷ ys) h = absurd h
-  AllZip-weaker R Q f (x ∷ xs) [] h = absurd h
-  AllZip-weaker R Q f (x ∷ xs) (y ∷ ys) h = (f x y h.0, AllZip-weaker R Q f xs ys h.1)
-
-  AllZip-trans : (R : A → A → Type 0) → ((x y z : A) → R x y → R y z → R x z) → (xs ys zs : List A) → AllZip R xs ys → AllZip R ys zs → AllZip R xs zs
-  AllZip-trans R f [] [] zs h k = k
-  AllZip-trans R f [] (y ∷ ys) zs h k = absurd h
-  AllZip-trans R f (x ∷ xs) [] zs h k = absurd h
-  AllZip-trans R f (x ∷ xs) (y ∷ ys) [] h k = absurd k
-  AllZip-trans R f (x ∷ xs) (y ∷ ys) (z ∷ zs) h k = (f x y z h.0 k.0, AllZip-trans R f xs ys zs h.1 k.1)
 
 module _ {T : Type 0} where
   pub agrees-refl : (ranks : Ranks T) → AreLawful ranks → (x : T) → agrees ranks x x ≡ true
@@ -47,9 +29,6 @@ module _ {T : Type 0} where
       let second = and_parts (agree y z) (agrees ranks y z) q in
       rw (h.0.congr x y z first.0 ∙ second.0, agrees-trans ranks h.1 x y z first.1 second.1) refl
 
-  same_item-refl : (ranks : Ranks T) (eq : T → T → Bool) → AreLawful ranks → IsEquivalence eq → (x : T) → same_item ranks eq x x ≡ true
-  same_item-refl ranks eq laws same x = rw (agrees-refl ranks laws x, same.refl x) refl
-
   pub same_item-equivalence : (ranks : Ranks T) (eq : T → T → Bool) → AreLawful ranks → IsPartialEquivalence eq → IsPartialEquivalence (same_item ranks eq)
   same_item-equivalence ranks eq laws same =
       record {
@@ -59,29 +38,6 @@ module _ {T : Type 0} where
             let second = and_parts (agrees ranks y z) (eq y z) q in
             rw (agrees-trans ranks laws x y z first.0 second.0, same.trans x y z first.1 second.1) refl;
       }
-
-  -- the laws of `IsSameBag`; no proof cites reflexivity, symmetry and transitivity so far
-  pub IsSameBag-refl : (ranks : Ranks T) (eq : T → T → Bool) → AreLawful ranks → IsEquivalence eq → (bag : List T) → IsSameBag ranks eq bag bag
-  IsSameBag-refl ranks eq laws same bag = (bag, IsPermutation-refl bag, AllZip-refl (λ x y. same_item ranks eq x y ≡ true) (same_item-refl ranks eq laws same) bag)
-
-  -- a bag is the same in another order
-  pub IsSameBag-left : (ranks : Ranks T) (eq : T → T → Bool) (bag other held : List T) → IsPermutation bag held → IsSameBag ranks eq bag other → IsSameBag ranks eq held other
-  IsSameBag-left ranks eq bag other held p h =
-      let moved = AllZip-follow (λ y x. same_item ranks eq x y ≡ true) h.0 bag held (AllZip-flip (λ x y. same_item ranks eq x y ≡ true) bag h.0 h.2) p in
-      (moved.0, IsPermutation-trans _ _ _ h.1 moved.1, AllZip-flip (λ y x. same_item ranks eq x y ≡ true) moved.0 held moved.2)
-
-  pub IsSameBag-symm : (ranks : Ranks T) (eq : T → T → Bool) → AreLawful ranks → IsPartialEquivalence eq → (bag other : List T) → IsSameBag ranks eq bag other → IsSameBag ranks eq other bag
-  IsSameBag-symm ranks eq laws same bag other h =
-      let back : AllZip (λ x y. same_item ranks eq x y ≡ true) h.0 bag =
-      AllZip-weaker (λ y x. same_item ranks eq x y ≡ true) (λ x y. same_item ranks eq x y ≡ true)
-      (λ y x k. (same_item-equivalence ranks eq laws same).symm y x ∙ k) h.0 bag (AllZip-flip (λ x y. same_item ranks eq x y ≡ true) bag h.0 h.2) in
-      IsSameBag-left ranks eq h.0 bag other (IsPermutation-sym _ _ h.1) (bag, IsPermutation-refl bag, back)
-
-  pub IsSameBag-trans : (ranks : Ranks T) (eq : T → T → Bool) → AreLawful ranks → IsPartialEquivalence eq → (bag other third : List T)
-      → IsSameBag ranks eq bag other → IsSameBag ranks eq other third → IsSameBag ranks eq bag third
-  IsSameBag-trans ranks eq laws same bag other third h k =
-      let moved = IsSameBag-left ranks eq other third h.0 h.1 k in
-      (moved.0, moved.1, AllZip-trans (λ x y. same_item ranks eq x y ≡ true) (λ x y z p q. (same_item-equivalence ranks eq laws same).trans x y z p q) bag h.0 moved.0 h.2 moved.2)
 
   pub IsSameBag-length : (ranks : Ranks T) (eq : T → T → Bool) (bag other : List T) → IsSameBag ranks eq bag other → length bag ≡ length other
   IsSameBag-length ranks eq bag other h = length_all_zip (λ x y. same_item ranks eq x y ≡ true) bag h.0 h.2 ∙ length_permutation _ _ h.1

@@ -1,7 +1,7 @@
 -- What holds of sound bags, and of a bag and its permutation.
 use Rattle.std.specs.Prelude.{◌≡◌, zero, suc, ◌+◌, ◌≤◌, Bool, true, false, cond, not, ◌&&◌, ◌||◌, List, [], ◌∷◌, ◌++◌, length, filter, IsPermutation, Contains}
 use Rattle.std.specs.List.{IsDistinct, AllByRecursion}
-use Rattle.std.proofs.Common.{refl, sym, ap, subst, ◌∙◌, arith, get_or, length-append}
+use Rattle.std.proofs.Common.{refl, sym, ap, subst, ◌∙◌, arith, get_or}
 use Rattle.std.proofs.lemmas.Map.Keys.{IsDistinct-head, IsDistinct-tail, IsDistinct-cons, IsDistinct-IsPermutation}
 use Rattle.std.proofs.lemmas.Bool.{false≢true, or_parts, not-true}
 use Rattle.std.proofs.lemmas.List.Sorted.{IsPermutation-refl, IsPermutation-cons, IsPermutation-trans, IsPermutation-middle, IsPermutation-append, length_permutation, Contains-permutation}
@@ -68,17 +68,6 @@ module _ {T : Type 0} where
         IsDistinct-cons agree x xs (each_weaker _ _ (λ y e. (or_parts (agree x y) (do_conflict ranks x y) e).0) xs head) rest.0,
         IsDistinct-cons (do_conflict ranks) x xs (each_weaker _ _ (λ y e. (or_parts (agree x y) (do_conflict ranks x y) e).1) xs head) rest.1,
       )
-
-  -- a listing of named members has at most one for each rank
-  pub length-listing : (ranks : Ranks T) (tests : List (T → Bool)) → AreNames ranks tests → (xs : List T) → IsSound ranks xs → length (listing tests xs) ≤ length ranks
-  length-listing [] tests names xs h = rw names (omega arith)
-  length-listing (agree ∷ ranks) [] names xs h = absurd names
-  length-listing (agree ∷ ranks) (test ∷ tests) names xs h =
-      let apart = IsSound-rank agree ranks xs h in
-      let one = length-named agree test names.0 xs apart.0 in
-      let others : List T = filter (λ x. not (test x)) xs in
-      let rest = length-listing ranks tests names.1 others (IsDistinct-filter (do_conflict ranks) (λ x. not (test x)) xs apart.1) in
-      omega (arith, length-append (filter test xs) (listing tests others))
 
   -- the tests of an item's own keys are names
   pub AreNames-tests_of : (ranks : Ranks T) (x : T) → AreLawful ranks → AreNames ranks (tests_of ranks x)

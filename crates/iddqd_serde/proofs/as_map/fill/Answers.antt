@@ -2,7 +2,6 @@ use Rattle.std.proofs.Common.{rules, ◌≡◌, ◌+◌, arith}
 use Rattle.serde.specs.Event.{key_begins, map_ends}
 use Rattle.serde.specs.Steps.{Gives}
 use Rattle.iddqd_store.proofs.CallerLemmas.{length-inserted}
-use Rattle.iddqd_store.specs.Map.{bag}
 use Rattle.iddqd_serde.proofs.Counting.{HasRead-more}
 use Rattle.iddqd_serde.proofs.as_map.fill.Goals as goal
 
@@ -15,13 +14,13 @@ returns-then-not-branch-clause-reads g c =
 -- the map and what was read get one item more
 pub loop-preserved : goal.loop-preserved
 loop-preserved g c =
-    let gains = c.in_ok-put.ensures.gains in
-    let more = length-inserted (bag (g.M.SlotMap.shown c.loop.map)) (bag (g.M.SlotMap.shown c.put.new.map)) c.in_ok-item.item gains.items in
+    let put = c.in_ok-put.ensures in
+    let more = length-inserted (g.M.Collection.listed c.loop.map) (g.M.Collection.listed c.put.new.map) c.in_ok-item.item put.gained in
     let found : Gives g.F.Format.gives c.loop.from key_begins c.next_entry.new.from = search rules in
     let counted : c.next_entry.new.read ≡ c.loop.read + 1 = search rules in
     let agreed : c.agree.new.agreed ≡ c.loop.agreed + 1 = search rules in (
       HasRead-more _ _ _ _ c.args.from.now c.loop.from c.next_entry.new.from _ more c.loop.invariant.0 found,
-      rw gains.same_builder c.loop.invariant.1,
+      λ new. put.builder (c.loop.invariant.1 new),
       omega (arith, more, c.loop.invariant.2, counted),
       omega (arith, more, c.loop.invariant.3, agreed),
     )

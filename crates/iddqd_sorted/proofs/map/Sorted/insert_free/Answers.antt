@@ -2,6 +2,7 @@ use Rattle.std.proofs.Common.{◌∙◌, ap, arith, length}
 use Rattle.std.specs.Prelude.{slice_index_or}
 use Rattle.std.proofs.lemmas.List.Edits.{length-insert}
 use Rattle.std.specs.Ordering.{is_eq}
+use Rattle.std.proofs.lemmas.List.Sorted.{IsPermutation-insert, IsPermutation-sym}
 use Rattle.iddqd_store.specs.Bag.{do_conflict}
 use Rattle.iddqd_order.specs.Row.{position}
 use Rattle.iddqd_sorted.specs.Items.{SortedValue, items, by_sort}
@@ -36,6 +37,11 @@ returns-clause-gains g c =
       fits = c.insert_into.ensures.fits;
       same_builder = c.insert_into.ensures.kept.1 ∙ c.make_room.ensures.builder;
     }
+
+pub returns-clause-gained : goal.returns-clause-gained
+returns-clause-gained g c =
+    let inserted = rw (c.make_room.ensures.slots, c.make_room.ensures.blocks) at c.insert_into.ensures.inserted in
+    rw inserted (IsPermutation-sym _ _ (IsPermutation-insert (items c.args.self.now) (position c.args.self.now.blocks c.in-Err.place) c.args.item))
 
 pub returns-clause-probed : goal.returns-clause-probed
 returns-clause-probed g c = rw c.make_room.ensures.slots at c.insert_into.ensures.probed

@@ -1,7 +1,0 @@
-use Rattle.iddqd_store.specs.Map.{bag}
-use Rattle.serde.proofs.Events.{WritesUpTo}
-use Rattle.iddqd_serde.proofs.serialize.Given as goal
-
--- the items so far are written
-abbrev pub invariant-loop-item : goal.invariant-loop-item
-invariant-loop-item g l = WritesUpTo g.M.Item.Described.writes (bag (g.M.SlotMap.shown l.map)) l.item-iterator (g.Out.Serializer.written l.initial.out) (g.Out.Serializer.written l.out)
