@@ -13,7 +13,7 @@ impl<T: IdOrdItem> Emptied for IdOrdMap<T> {
     ghost is_emptied = { λ m. (items m ≡ []) × (m.capacity ≡ 0) };
 
     fn emptied(like: &Self) -> Result<Self, AllocError>
-        ensures never_fails { IsOk result }
+        ensures granted { IsOk result }
     {
         Ok(IdOrdMap::new(like.items.allocator()))
     }
