@@ -99,8 +99,8 @@ impl<T: Ranked + Drop, S: BuildHasher> IdHashMap<T, S> {
         // that came.
         ensures most { MatchResult result
             (λ _. self.new.capacity ≤ most_extended self.old.capacity (length (bag self.new)))
-            (λ e. self.new.capacity ≤ most_extended self.old.capacity (length
-            (bag self.old) + length e.before.items + 1)) }
+            (λ e. self.new.capacity
+            ≤ most_extended self.old.capacity (length (bag self.old) + length e.before.items + 1)) }
         ensures grows_unless { GrowsUnless
             (FitsOn I.into_iter_gives I.IntoIter.remaining iter (length (bag self.old)) self.old.capacity)
             self.old self.new }
