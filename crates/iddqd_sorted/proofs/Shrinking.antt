@@ -1,170 +1,221 @@
--- The items of the slots below a number, which are listed one after another.
-use Rattle.std.proofs.Common.{◌≡◌, ◌≢◌, ℕ, zero, suc, ◌+◌, ◌<◌, ◌≤◌, true, false, Bor, List, [], ◌∷◌, Option, Some, None, IsSome, length, get_or, set, take, refl, sym, ap, ◌∙◌, subst, arith, inl, inr}
-use Rattle.std.specs.Prelude.{Contains, IsPermutation}
-use Rattle.std.specs.Option.{is_some, option_copied}
-use Rattle.std.specs.List.{insert}
+-- The numbers of the slots that items have after a shrink.
+use Rattle.std.proofs.Common.{◌≡◌, ℕ, zero, suc, ◌+◌, ◌^◌, ◌<◌, ◌≤◌, true, false, cond, All, List, [], ◌∷◌, ◌++◌, Option, Some, None, IsSome, length, get_or, set, take, drop, refl, sym, ap, ◌∙◌, subst, arith, inl, inr, add-one}
+use Rattle.std.specs.Prelude.{◌==◌, map}
 use Rattle.std.specs.Cmp.{IsTotalOrder}
 use Rattle.std.specs.declared.cmp.Ordering.{Ordering}
-use Rattle.std.proofs.lemmas.Bool.{false≢true, cases_lt}
-use Rattle.std.proofs.lemmas.List.{get_or-set_other}
-use Rattle.std.proofs.lemmas.List.Sorted.{IsPermutation-sym, IsPermutation-trans}
-use Rattle.iddqd_store.specs.Bag.{Ranks, AreLawful, IsSound, do_conflict}
-use Rattle.iddqd_store.specs.Slots.{get, contents, live_count, Updates}
-use Rattle.iddqd_store.proofs.BagLemmas.Sound.{IsSound-IsPermutation, none_pass}
-use Rattle.std.proofs.lemmas.Map.Keys.{IsDistinct-head}
-use Rattle.iddqd_store.proofs.SlotLemmas.Contents.{length-contents, contents-take, content_at}
-use Rattle.iddqd_order.specs.Search.{IsSplit}
+use Rattle.std.proofs.lemmas.Bool.{false≢true, cases_lt, eq-eqb}
+use Rattle.std.proofs.lemmas.Bool.Decides.{eqb_tells}
+use Rattle.std.proofs.lemmas.List.{get_or-map, get_or-set_other, get_or-set_same, length-append, length-map, take-map, take-take}
+use Rattle.std.proofs.lemmas.List.Sums.{count_by_more_yes, count_by_more_no, sum_by-cons, sum_by-take-le}
+use Rattle.iddqd_store.specs.Slots.{get, contents, live_count, IsLive, NextLive}
+use Rattle.iddqd_store.proofs.SlotLemmas.Contents.{length-contents}
+use Rattle.iddqd_store.proofs.SlotLemmas.Next.{nothing_left, comes_next, taken_before, before_and_behind}
 use Rattle.iddqd_sorted.specs.declared.entry.Entry.{Entry}
 use Rattle.iddqd_sorted.specs.Entries.{IsListed, item_in, items_in}
-use Rattle.iddqd_sorted.proofs.Entries.{items-same}
-use Rattle.iddqd_sorted.proofs.Finding.{passes_somewhere}
-use Rattle.iddqd_sorted.proofs.Listed.{IsListed-inserted, IsPermutation-listed, counted-items, long}
-use Rattle.iddqd_sorted.proofs.Unique.{ascending-unique}
+use Rattle.iddqd_sorted.specs.Renumbered.{mark_of, AreMarks, marked, IsNumber, AreNumbers, renumbered}
 
 module _ {T : Type 0} where
-  -- a borrow of no item is one of an empty slot
-  pub none_copied : (r : Option (Bor T)) (o : Option T) → option_copied r ≡ o → is_some r ≡ false → o ≡ None
-  none_copied None o is none = sym is
-  none_copied (Some b) o is none = absurd (false≢true (sym none))
+  -- what is in a slot that has an item
+  value_in : (o : Option T) → IsSome o → (x : T) × (o ≡ Some x)
+  value_in None live = absurd (false≢true live)
+  value_in (Some x) live = (x, refl)
 
-  pub some_copied : (r : Option (Bor T)) (o : Option T) → option_copied r ≡ o → is_some r ≡ true → IsSome o
-  some_copied None o is live = absurd (false≢true live)
-  some_copied (Some b) o is live = rw (sym is) refl
+  -- the item of a slot comes behind those of the slots before it
+  behind_others : (slots : List (Option T)) (slot : ℕ) (x d : T) → get slots slot ≡ Some x → get_or (contents slots) (length (contents (take slot slots))) d ≡ x
+  behind_others [] zero x d is = absurd (cc is)
+  behind_others [] (suc slot) x d is = absurd (cc is)
+  behind_others (None ∷ slots) zero x d is = absurd (cc is)
+  behind_others (Some y ∷ slots) zero x d is = cc is
+  behind_others (None ∷ slots) (suc slot) x d is = behind_others slots slot x d is
+  behind_others (Some y ∷ slots) (suc slot) x d is = behind_others slots slot x d is
 
-  get-below : (slots : List (Option T)) (n k : ℕ) → k < n → get (take n slots) k ≡ get slots k
-  get-below slots zero k lt = absurd (omega (arith, lt))
-  get-below [] (suc n) k lt = refl
-  get-below (s ∷ slots) (suc n) zero lt = refl
-  get-below (s ∷ slots) (suc n) (suc k) lt = get-below slots n k (omega (arith, lt))
+  -- one item more up to a slot that has one
+  one_more : (slots : List (Option T)) (from slot : ℕ) (x : T) → from ≤ slot → get slots slot ≡ Some x → ((k : ℕ) → from ≤ k → k < slot → get slots k ≡ None)
+      → length (contents (take (slot + 1) slots)) ≡ length (contents (take from slots)) + 1
+  one_more slots from slot x ahead is free =
+      ap length (taken_before slots from slot x (comes_next slots from slot x ahead is free)) ∙ length-append (contents (take from slots)) (x ∷ [])
 
-  get-past : (slots : List (Option T)) (n k : ℕ) → n ≤ k → get (take n slots) k ≡ None
-  get-past slots zero k le = refl
-  get-past [] (suc n) k le = refl
-  get-past (s ∷ slots) (suc n) zero le = absurd (omega (arith, le))
-  get-past (s ∷ slots) (suc n) (suc k) le = get-past slots n k (omega (arith, le))
+  fewer : (slots : List (Option T)) (from : ℕ) → length (contents (take from slots)) ≤ length (contents slots)
+  fewer slots from = omega (arith, ap length (before_and_behind slots from), length-append (contents (take from slots)) (contents (drop from slots)))
 
-  below : (slots : List (Option T)) (n k : ℕ) → IsSome (get (take n slots) k) → k < n
-  below slots n k live = elim (cases_lt k n) [
-    | inl lt ↦ lt
-    | inr le ↦ absurd (false≢true (rw (get-past slots n k (omega (arith, le))) at live))
-  ]
+  -- as many marks of 1 as items
+  marked-items : (slots : List (Option T)) → marked (map mark_of slots) ≡ length (contents slots)
+  marked-items [] = refl
+  marked-items (None ∷ slots) = omega (arith, marked-items slots, sum_by-cons (λ (mark : ℕ). cond (mark == 1) 1 0) 0 (map mark_of slots))
+  marked-items (Some x ∷ slots) = omega (arith, marked-items slots, sum_by-cons (λ (mark : ℕ). cond (mark == 1) 1 0) 1 (map mark_of slots))
 
-  -- a slot with an item below the number has it among all slots
-  pub same-taken : (slots : List (Option T)) (n k : ℕ) → IsSome (get (take n slots) k) → get slots k ≡ get (take n slots) k
-  same-taken slots n k live = sym (get-below slots n k (below slots n k live))
+  mark-live : (slots : List (Option T)) (n slot : ℕ) (x : T) → get slots slot ≡ Some x → slot < n → get_or (map mark_of (take n slots)) slot 0 ≡ 1
+  mark-live slots zero slot x is lt = absurd (omega (arith, lt))
+  mark-live [] (suc n) zero x is lt = absurd (cc is)
+  mark-live [] (suc n) (suc slot) x is lt = absurd (cc is)
+  mark-live (None ∷ slots) (suc n) zero x is lt = absurd (cc is)
+  mark-live (Some y ∷ slots) (suc n) zero x is lt = refl
+  mark-live (o ∷ slots) (suc n) (suc slot) x is lt = mark-live slots n slot x is (omega (arith, lt))
 
-  pub live-taken : (slots : List (Option T)) (n k : ℕ) → IsSome (get (take n slots) k) → IsSome (get slots k)
-  live-taken slots n k live = rw (same-taken slots n k live) live
+  -- the marks of 1 before a slot
+  marked-before : (slots : List (Option T)) (marks : List ℕ) → AreMarks slots marks → (slot : ℕ) → slot ≤ length marks → marked (take slot marks) ≡ length (contents (take slot slots))
+  marked-before slots marks are slot le =
+      let n = length marks in
+      ap (λ (ms : List ℕ). marked (take slot ms)) are.each ∙ ap marked (take-map mark_of slot (take n slots) ∙ ap (λ (os : List (Option T)). map mark_of os) (take-take slot n slots le))
+      ∙ marked-items (take slot slots)
 
-  taken-item : (slots : List (Option T)) (n k : ℕ) (y : T) → get (take n slots) k ≡ Some y → (k < n) × (get slots k ≡ Some y)
-  taken-item slots n k y is =
-      let live : IsSome (get (take n slots) k) = rw is refl in
-      (below slots n k live, same-taken slots n k live ∙ is)
+  -- no more marks of 1 than items
+  pub marked-all : (slots : List (Option T)) (marks : List ℕ) → AreMarks slots marks → marked marks ≤ length (contents slots)
+  marked-all slots marks are =
+      let n = length marks in
+      let all : marked marks ≡ length (contents (take n slots)) = ap marked are.each ∙ marked-items (take n slots) in
+      omega (arith, all, fewer slots n)
 
-  updated : (slots : List (Option T)) (n : ℕ) (o : Option T) → get slots n ≡ o → Updates (take n slots) (take (suc n) slots) n o
-  updated slots n o is = record {
-    changed = get-below slots (suc n) n (omega arith) ∙ is;
-    others = λ k other. elim (cases_lt k n) [
-      | inl lt ↦ get-below slots (suc n) k (omega (arith, lt)) ∙ sym (get-below slots n k lt)
-      | inr le ↦ get-past slots (suc n) k (omega (arith, le, other)) ∙ sym (get-past slots n k (omega (arith, le)))
-    ];
-  }
+-- the numbers of the slots, one mark after another
+pub record IsNumbering {T : Type 0} (slots : List (Option T)) (marks now : List ℕ) (at from : ℕ) : Type 0 where
+  pub each : (j : ℕ) → j < at → get_or marks j 0 ≡ 1 → IsNumber slots (marked (take j marks)) (get_or now j 0)
+  pub rest : (j : ℕ) → at ≤ j → get_or now j 0 ≡ get_or marks j 0
+  pub reached : length (contents (take from slots)) ≡ marked (take at marks)
 
-  skipped : (slots : List (Option T)) (n : ℕ) → get slots n ≡ None → (k : ℕ) → get (take (suc n) slots) k ≡ get (take n slots) k
-  skipped slots n none k = elim (cases_lt k n) [
-    | inl lt ↦ get-below slots (suc n) k (omega (arith, lt)) ∙ sym (get-below slots n k lt)
-    | inr le ↦ elim (cases_lt n k) [
-      | inl past ↦ get-past slots (suc n) k (omega (arith, past)) ∙ sym (get-past slots n k (omega (arith, le)))
-      | inr here ↦
-          let same : k ≡ n = omega (arith, le, here) in
-          rw same (get-below slots (suc n) n (omega arith) ∙ none ∙ sym (get-past slots n n (omega arith)))
-    ]
-  ]
+module _ {T : Type 0} (slots : List (Option T)) (marks : List ℕ) where
+  pub IsNumbering-start : IsNumbering slots marks marks 0 0
+  IsNumbering-start = record { each = λ j lt. absurd (omega (arith, lt)); rest = λ j le. refl; reached = refl }
 
-  contents-more : (slots : List (Option T)) (n : ℕ) (x : T) → get slots n ≡ Some x → length (contents (take (suc n) slots)) ≡ length (contents (take n slots)) + 1
-  contents-more [] n x is = absurd (cc is)
-  contents-more (None ∷ slots) zero x is = absurd (cc is)
-  contents-more (Some y ∷ slots) zero x is = refl
-  contents-more (None ∷ slots) (suc n) x is = contents-more slots n x is
-  contents-more (Some y ∷ slots) (suc n) x is = omega (arith, contents-more slots n x is)
+  module _ (now : List ℕ) (at from : ℕ) (r : IsNumbering slots marks now at from) (within : at < length marks) where
+    pub IsNumbering-skip : (get_or now at 0 ≡ 1 → ⊥) → IsNumbering slots marks now (at + 1) from
+    IsNumbering-skip free =
+        record {
+          each = λ j lt one. elim (cases_lt j at) [
+            | inl below ↦ r.each j below one
+            | inr le ↦
+                let here : j ≡ at = omega (arith, lt, le) in
+                absurd (free (r.rest at (omega arith) ∙ (rw here at one)))
+          ];
+          rest = λ j le. r.rest j (omega (arith, le));
+          reached = r.reached ∙ sym (count_by_more_no (λ mark. mark == 1) marks at 0 within no);
+        }
+      where
+        no : (get_or marks at 0 == 1) ≡ false
+        no = elim (eqb_tells (get_or marks at 0) 1) [
+          | inl here ↦ absurd (free (r.rest at (omega arith) ∙ here.1))
+          | inr other ↦ other.0
+        ]
 
-  contents-skip : (slots : List (Option T)) (n : ℕ) → get slots n ≡ None → length (contents (take (suc n) slots)) ≡ length (contents (take n slots))
-  contents-skip [] zero is = refl
-  contents-skip [] (suc n) is = refl
-  contents-skip (None ∷ slots) zero is = refl
-  contents-skip (Some y ∷ slots) zero is = absurd (cc is)
-  contents-skip (None ∷ slots) (suc n) is = contents-skip slots n is
-  contents-skip (Some y ∷ slots) (suc n) is = omega (arith, contents-skip slots n is)
+    module _ (one : get_or now at 0 ≡ 1) where
+      counted : marked (take (at + 1) marks) ≡ marked (take at marks) + 1
+      counted = count_by_more_yes (λ mark. mark == 1) marks at 0 within (eq-eqb (get_or marks at 0) 1 (sym (r.rest at (omega arith)) ∙ one))
 
-  contents-fewer : (slots : List (Option T)) (n : ℕ) → length (contents (take n slots)) ≤ length (contents slots)
-  contents-fewer slots zero = omega arith
-  contents-fewer [] (suc n) = omega arith
-  contents-fewer (None ∷ slots) (suc n) = contents-fewer slots n
-  contents-fewer (Some y ∷ slots) (suc n) = omega (arith, contents-fewer slots n)
+      pub IsNumbering-none : marked marks ≤ length (contents slots) → NextLive slots from None → ⊥
+      IsNumbering-none few next =
+          let left : length (contents (drop from slots)) ≡ 0 = ap length (nothing_left slots from next) in
+          let all = ap length (before_and_behind slots from) in
+          absurd (omega (arith, few, left, all, length-append (contents (take from slots)) (contents (drop from slots)), counted, r.reached, sum_by-take-le (λ (mark : ℕ). cond (mark == 1) 1 0) marks (at + 1)))
 
-  -- there is room for the item of one more slot
-  pub room-taken : (slots : List (Option T)) (n : ℕ) → IsSome (get slots n) → live_count (take n slots) < length (contents slots)
-  room-taken slots n live = by_slot (get slots n) refl live
+      pub IsNumbering-more : (slot : ℕ) → length now ≡ length marks → NextLive slots from (Some slot) → slot + 1 < 2 ^ 64 → IsNumbering slots marks (set now at slot) (at + 1) (slot + 1)
+      IsNumbering-more slot long next small =
+          let here = value_in (get slots slot) next.1 in
+          let up_to = one_more slots from slot here.0 next.0 here.1 next.2 in
+          let alone = one_more slots slot slot here.0 (omega arith) here.1 (λ k le lt. absurd (omega (arith, le, lt))) in
+          let number : IsNumber slots (marked (take at marks)) slot = record { live = next.1; before = omega (arith, up_to, alone, r.reached); small = small } in
+          record {
+            each = λ j lt is_one. elim (cases_lt j at) [
+              | inl below ↦ rw (get_or-set_other now at j slot 0 (λ same. absurd (omega (arith, below, same)))) (r.each j below is_one)
+              | inr le ↦
+                  let same : j ≡ at = omega (arith, lt, le) in
+                  rw (same, get_or-set_same now at slot 0 (omega (arith, within, long))) number
+            ];
+            rest = λ j le. get_or-set_other now at j slot 0 (λ same. absurd (omega (arith, le, same))) ∙ r.rest j (omega (arith, le));
+            reached = omega (arith, up_to, counted, r.reached);
+          }
+
+-- where the item of each slot has gone
+pub record HasGone {T : Type 0} (new : List (Option T)) (numbers : List ℕ) (slot : ℕ) (x : T) : Type 0 where
+  pub within : slot < length numbers
+  pub small : get_or numbers slot 0 + 1 < 2 ^ 64
+  pub item : get new (get_or numbers slot 0) ≡ Some x
+
+module _ {T : Type 0} (old new : List (Option T)) (marks numbers : List ℕ) (are : AreMarks old marks) (named : AreNumbers new marks numbers) (same : contents new ≡ contents old) where
+  pub has_gone : (slot : ℕ) (x : T) → get old slot ≡ Some x → HasGone new numbers slot x
+  has_gone slot x is =
+      let within : slot < length marks = are.all slot (rw is refl) in
+      let one : get_or marks slot 0 ≡ 1 = subst (λ (ms : List ℕ). get_or ms slot 0 ≡ 1) (sym are.each) (mark-live old (length marks) slot x is within) in
+      let there = named.each slot within one in
+      let here = value_in (get new (get_or numbers slot 0)) there.live in
+      let rank : length (contents (take (get_or numbers slot 0) new)) ≡ length (contents (take slot old)) = there.before ∙ marked-before old marks are slot (omega (arith, within)) in
+      let found = behind_others new (get_or numbers slot 0) here.0 x here.1 in
+      let was = behind_others old slot x x is in
+      let alike : here.0 ≡ x = sym found ∙ (ap (λ (n : ℕ). get_or (contents new) n x) rank ∙ (ap (λ (xs : List T). get_or xs (length (contents (take slot old))) x) same ∙ was)) in
+      record { within = omega (arith, within, named.length); small = there.small; item = here.1 ∙ ap Some alike }
+
+  module _ {K : Type 0} {by : T → T → Ordering} (sort : T → K) {cmp : K → K → Ordering} (es : List (Entry K)) (r : IsListed by sort cmp old es) where
+    pub are_small : All (λ e. (e.slot < length numbers) × (get_or numbers e.slot 0 + 1 < 2 ^ 64)) es
+    are_small i d lt =
+        let here = value_in (item_in old (get_or es i d)) (r.live i d lt) in
+        let gone = has_gone (get_or es i d).slot here.0 here.1 in
+        (gone.within, gone.small)
+
+    same_item : (i : ℕ) (d : Entry K) → i < length es → item_in new (renumbered numbers (get_or es i d)) ≡ item_in old (get_or es i d)
+    same_item i d lt =
+        let here = value_in (item_in old (get_or es i d)) (r.live i d lt) in
+        (has_gone (get_or es i d).slot here.0 here.1).item ∙ sym here.1
+
+    pub items-renumbered : items_in new (map (renumbered numbers) es) ≡ items_in old es
+    items-renumbered = over es same_item
+      where
+        over : (fs : List (Entry K)) → ((i : ℕ) (d : Entry K) → i < length fs → item_in new (renumbered numbers (get_or fs i d)) ≡ item_in old (get_or fs i d))
+            → items_in new (map (renumbered numbers) fs) ≡ items_in old fs
+        over [] alike = refl
+        over (f ∷ fs) alike = rw (alike 0 f (omega arith), over fs (λ i d lt. alike (suc i) d (omega (arith, lt)))) refl
+
+    pub IsListed-renumbered : IsListed by sort cmp new (map (renumbered numbers) es)
+    IsListed-renumbered =
+        let len = length-map es (renumbered numbers) in
+        record {
+          live = λ i d lt.
+              let less : i < length es = omega (arith, lt, len) in
+              rw (get_or-map (renumbered numbers) es i d d less, same_item i d less) (r.live i d less);
+          keyed = λ i d lt x found.
+              let less : i < length es = omega (arith, lt, len) in
+              rw (get_or-map (renumbered numbers) es i d d less) (r.keyed i d less x (sym (same_item i d less) ∙ (rw (get_or-map (renumbered numbers) es i d d less) at found)));
+          counted = omega (arith, len, r.counted, length-contents new, length-contents old, ap length same);
+          ascending = rw items-renumbered r.ascending;
+        }
+
+-- the first entries are changed
+module _ {E : Type 0} (f : E → E) where
+  abbrev pub changed_to : List E → ℕ → List E
+  changed_to es i = map f (take i es) ++ drop i es
+
+  pub changed-here : (es : List E) (i : ℕ) (d : E) → i < length es → get_or (changed_to es i) i d ≡ get_or es i d
+  changed-here [] i d lt = absurd (omega (arith, lt))
+  changed-here (e ∷ es) zero d lt = refl
+  changed-here (e ∷ es) (suc i) d lt = changed-here es i d (omega (arith, lt))
+
+  pub changed-more : (es : List E) (i : ℕ) (d : E) → i < length es → set (changed_to es i) i (f (get_or es i d)) ≡ changed_to es (i + 1)
+  changed-more es i d lt = subst (λ (n : ℕ). set (changed_to es i) i (f (get_or es i d)) ≡ changed_to es n) (sym (add-one i)) (more es i d lt)
     where
-      by_slot : (o : Option T) → get slots n ≡ o → IsSome (get slots n) → live_count (take n slots) < length (contents slots)
-      by_slot None is here = absurd (false≢true (rw is at here))
-      by_slot (Some x) is here = omega (arith, length-contents (take n slots), contents-more slots n x is, contents-fewer slots (suc n))
+      more : (es : List E) (i : ℕ) (d : E) → i < length es → set (changed_to es i) i (f (get_or es i d)) ≡ changed_to es (suc i)
+      more [] i d lt = absurd (omega (arith, lt))
+      more (e ∷ es) zero d lt = refl
+      more (e ∷ es) (suc i) d lt = ap (λ (xs : List E). f e ∷ xs) (more es i d (omega (arith, lt)))
 
-  -- items in two slots do not conflict
-  pub apart-slots : (ranks : Ranks T) → AreLawful ranks → (slots : List (Option T)) (n k : ℕ) (x y : T) → IsSound ranks (contents slots)
-      → get slots n ≡ Some x → get (take n slots) k ≡ Some y → do_conflict ranks x y ≡ true → ⊥
-  apart-slots ranks laws slots n k x y sound at_n at_k conflict =
-      let left = contents (set slots n None) in
-      let (low, at) = taken-item slots n k y at_k in
-      let others = IsDistinct-head (do_conflict ranks) x left (IsSound-IsPermutation ranks laws (contents slots) (x ∷ left) (contents-take slots n x at_n) sound) in
-      let none = none_pass (do_conflict ranks x) left others in
-      let there : Contains left y = content_at (set slots n None) k y (get_or-set_other slots n k None None (λ same. absurd (omega (arith, low, same))) ∙ at) in
-      passes_somewhere (do_conflict ranks x) left y there.0 none there.1 (rw there.2 conflict)
+  pub length-changed : (es : List E) (i : ℕ) → length (changed_to es i) ≡ length es
+  length-changed es zero = refl
+  length-changed [] (suc i) = refl
+  length-changed (e ∷ es) (suc i) = ap suc (length-changed es i)
 
-module _ {T K : Type 0} {by : T → T → Ordering} (o : IsTotalOrder by) (sort : T → K) {cmp : K → K → Ordering} (slots : List (Option T)) (n : ℕ) (es : List (Entry K)) (r : IsListed by sort cmp (take n slots) es) where
-  skip : get slots n ≡ None → IsListed by sort cmp (take (suc n) slots) es
-  skip none =
-      let same = skipped slots n none in
-      let alike : items_in (take (suc n) slots) es ≡ items_in (take n slots) es = items-same (item_in (take n slots)) (item_in (take (suc n) slots)) es (λ i d lt. same (get_or es i d).slot) in
-      record {
-        live = λ i d lt. rw (same (get_or es i d).slot) (r.live i d lt);
-        keyed = λ i d lt x found. r.keyed i d lt x (sym (same (get_or es i d).slot) ∙ found);
-        counted = omega (arith, length-contents (take n slots), length-contents (take (suc n) slots), contents-skip slots n none, r.counted);
-        ascending = rw alike r.ascending;
-      }
+  pub changed-all : (es : List E) (i : ℕ) → length es ≤ i → changed_to es i ≡ map f es
+  changed-all [] zero le = refl
+  changed-all (e ∷ es) zero le = absurd (omega (arith, le))
+  changed-all [] (suc i) le = refl
+  changed-all (e ∷ es) (suc i) le = ap (λ (xs : List E). f e ∷ xs) (changed-all es i (omega (arith, le)))
 
-  next : suc n ≡ n + 1
-  next = omega arith
+-- the entry that is changed next
+module _ {K : Type 0} (numbers : List ℕ) (es now : List (Entry K)) (i : ℕ) (is : now ≡ changed_to (renumbered numbers) es i) (within : i < length now) (e : Entry K) (here : e ≡ get_or now i e) where
+  less : i < length es
+  less = omega (arith, within, ap length is, length-changed (renumbered numbers) es i)
 
-  -- a slot without an item
-  pub IsListed-skip : get slots n ≡ None → IsListed by sort cmp (take (n + 1) slots) es
-  IsListed-skip none = subst (λ (m : ℕ). IsListed by sort cmp (take m slots) es) next (skip none)
+  same : e ≡ get_or es i e
+  same = here ∙ (ap (λ (xs : List (Entry K)). get_or xs i e) is ∙ changed-here (renumbered numbers) es i e less)
 
-  -- the item of the slot, listed at its place
-  pub IsListed-more : (x : T) (k : K) (i : ℕ) → get slots n ≡ Some x → sort x ≡ k → IsSplit (λ y. by y x) (items_in (take n slots) es) i 0
-      → IsListed by sort cmp (take (n + 1) slots) (insert es i (record { sort_key = k; slot = n }))
-  IsListed-more x k i is keyed gap =
-      let e : Entry K = record { sort_key = k; slot = n } in
-      subst (λ (m : ℕ). IsListed by sort cmp (take m slots) (insert es i e)) next
-      (IsListed-inserted o sort (take n slots) es r (take (suc n) slots) e i x (get-past slots n n (omega arith)) (updated slots n (Some x) is)
-      (omega (arith, length-contents (take n slots), length-contents (take (suc n) slots), contents-more slots n x is)) (λ q. ap (λ z. cmp z q) keyed) gap)
+  pub small_here : All (λ f. (f.slot < length numbers) × (get_or numbers f.slot 0 + 1 < 2 ^ 64)) es → (e.slot < length numbers) × (get_or numbers e.slot 0 + 1 < 2 ^ 64)
+  small_here small = subst (λ (f : Entry K). (f.slot < length numbers) × (get_or numbers f.slot 0 + 1 < 2 ^ 64)) (sym same) (small i e less)
 
--- the same items in other slots, listed anew
-module _ {T K : Type 0} {by : T → T → Ordering} (o : IsTotalOrder by) (sort : T → K) {cmp : K → K → Ordering} (slots : List (Option T)) (es : List (Entry K)) (r : IsListed by sort cmp slots es)
-    (new : List (Option T)) (same : contents new ≡ contents slots) where
-  had : IsPermutation (contents new) (items_in slots es)
-  had = subst (λ (q : List T). IsPermutation q (items_in slots es)) (sym same) (IsPermutation-listed o sort slots es r)
-
-  pub count-relisted : length (contents new) ≡ length (items_in slots es)
-  count-relisted = omega (arith, ap length same, counted-items o sort slots es r)
-
-  pub sound-relisted : (ranks : Ranks T) → AreLawful ranks → IsSound ranks (items_in slots es) → IsSound ranks (contents new)
-  sound-relisted ranks laws sound = IsSound-IsPermutation ranks laws (items_in slots es) (contents new) (IsPermutation-sym _ _ had) sound
-
-  module _ (es2 : List (Entry K)) (r2 : IsListed by sort cmp new es2) where
-    pub items-relisted : items_in new es2 ≡ items_in slots es
-    items-relisted = ascending-unique o (items_in new es2) (items_in slots es) r2.ascending r.ascending
-        (IsPermutation-trans _ _ _ (IsPermutation-sym _ _ (IsPermutation-listed o sort new es2 r2)) had)
-
-    pub length-relisted : length es2 ≡ length (items_in slots es)
-    length-relisted = omega (arith, long o sort new es2 r2, ap length items-relisted)
+  pub changed_next : set now i (renumbered numbers e) ≡ changed_to (renumbered numbers) es (i + 1)
+  changed_next =
+      ap (λ (xs : List (Entry K)). set xs i (renumbered numbers e)) is ∙ (ap (λ (f : Entry K). set (changed_to (renumbered numbers) es i) i (renumbered numbers f)) same ∙ changed-more (renumbered numbers) es i e less)

@@ -6,4 +6,5 @@ pub mod Keeping
 pub mod Keyed
 pub mod Ordered
 pub mod Overwriting
+pub mod Renumbered
 pub mod Settled

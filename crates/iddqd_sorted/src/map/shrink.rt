@@ -1,18 +1,16 @@
 //! Shrinking the capacity.
-ghost use Rattle.std.specs.Prelude.{◌≡◌, ◌+◌, ◌<◌, ◌≤◌, [], length, take, IsOk, OnOk, OnErr};
-ghost use Rattle.iddqd_store.specs.Bag.{IsSound};
-ghost use Rattle.iddqd_store.specs.Map.{bag, shrunk_to};
-ghost use Rattle.iddqd_store.specs.Slots.{contents, IsLive};
-ghost use Rattle.iddqd_order.specs.Row.{entries_in, line};
-ghost use Rattle.iddqd_sorted.specs.Entries.{IsListed};
-ghost use Rattle.iddqd_sorted.specs.Items.{items, by_sort};
+ghost use Rattle.std.specs.Prelude.{◌≡◌, ℕ, ◌+◌, ◌^◌, ◌<◌, ◌≤◌, length, map, slice_index_or, All, IsOk, IfOk, OnOk, OnErr};
+ghost use Rattle.iddqd_store.specs.Map.{shrunk_to};
+ghost use Rattle.iddqd_store.specs.Slots.{contents, IsLive, live_count};
+ghost use Rattle.iddqd_order.specs.Row.{entries_in};
+ghost use Rattle.iddqd_sorted.specs.Items.{items};
+ghost use Rattle.iddqd_sorted.specs.Renumbered.{AreMarks, AreNumbers, marked, renumbered};
 
 use super::Sorted;
-use crate::compare::ByItem;
 use crate::entry::Entry;
 use crate::item::Sortable;
 use iddqd_order::Blocks;
-use iddqd_store::{ItemIndex, ItemSet, Meter, SlotMap, TryReserveError};
+use iddqd_store::{ItemIndex, ItemSet, SlotMap, TryReserveError};
 
 impl<M: SlotMap> Sorted<M>
 where
@@ -21,9 +19,9 @@ where
 {
     /// Shrinks the capacity to `least`, but not below the number of items. It never grows the capacity.
     ///
-    /// The call allocates smaller slots and tables, and hashes each key anew. Then it lists each item anew in the order, and gives
-    /// back the memory that the order does not need: among fewer than `4 ^ r` items it compares at most `3 * r + 19` sort keys for
-    /// each. If an allocation fails, the map is as before.
+    /// The call allocates smaller slots and tables, and hashes each key anew. Then each entry of the order gets the number of its
+    /// item's new slot, where it stands: the call compares no key. While it runs, it needs 8 bytes for each slot beside the new
+    /// memory. Last it gives back the memory that the order does not need. If an allocation fails, the map is as before.
     ///
     /// A call that does not change the capacity gives back what memory it can, and never fails.
     pub fn shrink_to(&mut self, least: usize) -> Result<(), TryReserveError>
@@ -60,73 +58,90 @@ where
         self.shrink_to(0)
     }
 
-    /// Gives the items other slots, of which there are so many, and lists them anew. After an error the map is as before.
+    /// Gives the items other slots, of which there are so many, and the entries the numbers of these. After an error the map is
+    /// as before.
     fn rebuild(&mut self, wanted: usize) -> Result<(), TryReserveError>
         requires enough { length (items self.old) ≤ wanted }
         requires shrinks { wanted ≤ self.old.capacity }
-        requires sound { IsSound M.ranks (items self.old) }
         ensures items { items self.new ≡ items self.old }
         ensures builder { self.new.builder ≡ self.old.builder }
         ensures capacity { OnOk result (self.new.capacity ≡ wanted) }
         ensures reason { OnErr result (0 < wanted) }
         ensures unchanged { OnErr result (self.new ≡ self.old) }
     {
+        // All that can fail comes first, and all code of the caller.
+        let mut numbers = marks_of_live(self.map.slots())?;
         self.map.shrink_to(wanted)?;
-        self.order.clear();
-        list_anew::<M>(&self.map, &mut self.order);
+        number_marked(self.map.slots(), &mut numbers);
+        renumber(&mut self.order, &numbers);
         self.order.lower_capacity(wanted);
         Ok(())
     }
 }
 
-/// Lists each item of a map in an order that lists none, one slot after another.
-fn list_anew<M: SlotMap>(map: &M, order: &mut Blocks<Entry<<M::Item as Sortable>::SortKey>>)
-where
-    M::Item: Sortable,
-    M::FirstKey: Ord,
-    requires none { entries_in order.old ≡ [] }
-    requires fits { length (bag (M.shown map.now)) ≤ order.old.capacity }
-    requires sound { IsSound M.ranks (bag (M.shown map.now)) }
-    ensures listed { IsListed (by_sort M.Item.sort_key M.Item.SortKey.cmp M.first_key M.FirstKey.cmp) M.Item.sort_key M.Item.SortKey.cmp
-        (M.shown map.now).slots (line order.new.blocks) }
-    ensures capacity { order.new.capacity ≡ order.old.capacity }
+/// Returns the number of slots, or 0 if all are free.
+fn slots_with_items<T>(slots: &ItemSet<T>) -> usize
+    ensures within { result ≤ length slots.now.slots }
+    ensures all { (slot : ℕ) → IsLive slots.now.slots slot → slot < result }
+    ensures none { live_count slots.now.slots ≡ 0 → result ≡ 0 }
 {
-    let slots = map.slots();
-    for number in 0..slots.slot_count() {
-        let slot = ItemIndex::new(number);
-        if slots.get(slot).is_some() {
-            list_item::<M>(slots, slot, order);
+    if slots.len() == 0 {
+        return 0;
+    }
+    slots.slot_count()
+}
+
+/// Returns 1 for each slot that has an item, and 0 for each that is free. If all are free, it allocates nothing.
+fn marks_of_live<T>(slots: &ItemSet<T>) -> Result<Vec<usize>, TryReserveError>
+    ensures marks { IfOk result (λ v. AreMarks slots.now.slots v.items) }
+    ensures reason { OnErr result (0 < live_count slots.now.slots) }
+{
+    let count = slots_with_items(slots);
+    let mut marks = Vec::with_capacity(slots.allocator(), count)?;
+    for number in 0..count {
+        marks.push_reserved(match slots.get(ItemIndex::new(number)) {
+            Some(_) => 1,
+            None => 0,
+        });
+    }
+    Ok(marks)
+}
+
+/// Writes the number of a slot in the place of each mark of 1: for the first mark that of the first slot with an item, for the next mark
+/// that of the next slot with one.
+fn number_marked<T>(slots: &ItemSet<T>, marks: &mut [usize])
+    requires { marked marks.old ≤ length (contents slots.now.slots) }
+    ensures { AreNumbers slots.now.slots marks.old marks.new }
+{
+    let mut from = 0;
+    for at in 0..marks.len() {
+        if marks[at] == 1 {
+            let Some(slot) = slots.next_live(from) else {
+                unreachable!()
+            };
+            marks[at] = slot.number();
+            from = slot.number() + 1;
         }
     }
 }
 
-/// Lists the item of a slot in an order that lists the items of the slots before it.
-fn list_item<M: SlotMap>(
-    slots: &ItemSet<M::Item>,
-    slot: ItemIndex,
-    order: &mut Blocks<Entry<<M::Item as Sortable>::SortKey>>,
-)
-where
-    M::Item: Sortable,
-    M::FirstKey: Ord,
-    requires live { IsLive slots.now.slots slot }
-    requires listed { IsListed (by_sort M.Item.sort_key M.Item.SortKey.cmp M.first_key M.FirstKey.cmp) M.Item.sort_key M.Item.SortKey.cmp
-        (take slot slots.now.slots) (line order.old.blocks) }
-    requires room { length (entries_in order.old) < order.old.capacity }
-    requires sound { IsSound M.ranks (contents slots.now.slots) }
-    ensures listed { IsListed (by_sort M.Item.sort_key M.Item.SortKey.cmp M.first_key M.FirstKey.cmp) M.Item.sort_key M.Item.SortKey.cmp
-        (take (slot + 1) slots.now.slots) (line order.new.blocks) }
+/// Gives each entry the number that stands at the index of its own. No entry moves.
+fn renumber<K: Copy>(order: &mut Blocks<Entry<K>>, numbers: &[usize])
+    requires { All (λ e. (e.slot < length numbers.now) × (slice_index_or numbers.now e.slot 0 + 1 < 2 ^ 64)) (entries_in order.old) }
+    ensures entries { entries_in order.new ≡ map (renumbered numbers.now) (entries_in order.old) }
     ensures capacity { order.new.capacity ≡ order.old.capacity }
 {
-    let item = slots.item(slot);
-    let sort_key = item.sort_key();
-    let compare: ByItem<'_, M> = ByItem {
-        items: slots,
-        sort_key,
-        first_key: M::first_key(item),
-    };
-    let Err(place) = order.search(&compare, &mut Meter::new()) else {
-        unreachable!()
-    };
-    let _ = order.insert(place, Entry { sort_key, slot });
+    let mut next = order.first();
+    while let Some(place) = next {
+        let entry = *order.entry_in(place);
+        let slot = ItemIndex::new(numbers[entry.slot.number()]);
+        let _ = order.replace(
+            place,
+            Entry {
+                sort_key: entry.sort_key,
+                slot,
+            },
+        );
+        next = order.next(place);
+    }
 }
