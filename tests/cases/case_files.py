@@ -22,7 +22,7 @@ class Case:
 def spread(line):
     """Returns the lines that a line stands for: one, or with `LEAST..MOST` in front one for each number."""
     span = re.match(r"(\d+)\.\.(\d+) (.*)", line)
-    put = lambda number: re.sub(r"(?:(\d+)-)?#", lambda it: str(int(it[1]) - number if it[1] else number), span[3])
+    put = lambda number: re.sub(r"(?:(\d+)([-+]))?#", lambda it: str(int(it[1] or 0) + (-number if it[2] == "-" else number)), span[3])
     return [put(it) for it in range(int(span[1]), int(span[2]) + 1)] if span else [line]
 
 

@@ -12,7 +12,7 @@ impl<T: BiHashItem + Drop, S: BuildHasher> BiHashMap<T, S> {
     /// Shrinks the capacity to `least`, but not below the number of items. It never grows the capacity.
     ///
     /// The call allocates smaller slots and tables, and hashes each key anew. It compares none. If an allocation fails,
-    /// the map is as before. For a map that gets capacity 0 the call allocates nothing.
+    /// the map is as before, and each key may have been hashed. For a map that gets capacity 0 the call allocates nothing.
     ///
     /// If the slots and tables are those of a map made with the new capacity, the call allocates and hashes nothing.
     /// They may be larger although the capacity stays, for example the slots of a large map that has grown. Then the

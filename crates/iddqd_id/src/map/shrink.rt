@@ -14,7 +14,8 @@ impl<T: IdHashItem + Drop, S: BuildHasher> IdHashMap<T, S> {
     /// Shrinks the capacity to `least`, but not below the number of items. It never grows the capacity.
     ///
     /// The call allocates smaller slots and a smaller table, and hashes each key anew. It compares none. If an
-    /// allocation fails, the map is as before. For a map that gets capacity 0 the call allocates nothing.
+    /// allocation fails, the map is as before, and each key may have been hashed. For a map that gets capacity 0 the
+    /// call allocates nothing.
     ///
     /// If the slots and the table are those of a map made with the new capacity, the call allocates and hashes nothing.
     /// They may be larger although the capacity stays, for example the slots of a large map that has grown. Then the
