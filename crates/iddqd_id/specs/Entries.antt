@@ -138,14 +138,14 @@ module _ {T S Q Key H : Type 0} {of : item.Ghosts T Key}
     pub record GainsAndLends (x : T) (r : RefMut T S Key H of eq input build hashes) : Type 0 where
       pub same_map : ref_lender r ≡ v.map.ghost_name
       pub item : ref_item r ≡ Some x
-      pub gains : Gains v.map.now x (ref_map r)
+      pub gains : Gains 1 v.map.now x (ref_map r)
 
     -- The item `x` was inserted into this very map (`Gains`), and the occupied entry, with the key of the vacant one, has
     -- found it.
     -- Example: A map of a, b becomes `x`, a, b, and the entry has found `x`.
     pub record GainsAndFinds (x : T) (o : OccupiedEntry T S Q Key H) : Type 0 where
       pub same_map : o.map.ghost_name ≡ v.map.ghost_name
-      pub gains : Gains v.map.now x o.map.now
+      pub gains : Gains 1 v.map.now x o.map.now
       pub key : o.query ≡ v.query
       pub item : found_item o ≡ Some x
       pub has_found : HasFound of q.stands_for o
