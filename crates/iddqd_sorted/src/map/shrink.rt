@@ -97,7 +97,8 @@ fn marks_of_live<T>(slots: &ItemSet<T>) -> Result<Vec<usize>, TryReserveError>
     ensures reason { OnErr result (0 < live_count slots.now.slots) }
 {
     let count = slots_with_items(slots);
-    let mut marks = Vec::with_capacity(slots.allocator(), count)?;
+    let alloc = slots.allocator();
+    let mut marks = Vec::with_capacity(alloc, count)?;
     for number in 0..count {
         marks.push_reserved(match slots.get(ItemIndex::new(number)) {
             Some(_) => 1,
