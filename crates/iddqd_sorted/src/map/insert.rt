@@ -9,13 +9,13 @@ ghost use Rattle.iddqd_store.specs.Slots.{get, Updates};
 ghost use Rattle.iddqd_store.specs.Slots.Found.{StandAt, each_once};
 ghost use Rattle.iddqd_order.specs.Row.{position, IsPlace};
 ghost use Rattle.iddqd_sorted.specs.Inserts.{TellsWhy};
-ghost use Rattle.iddqd_sorted.specs.Items.{items, bag, by_sort, Gains};
+ghost use Rattle.iddqd_sorted.specs.Items.{items, bag, Gains};
 ghost use Rattle.iddqd_sorted.specs.Ordered.{IsAscending};
 ghost use Rattle.iddqd_order.specs.Search.{IsSplit};
 
 use super::Sorted;
 use crate::entry::Entry;
-use crate::item::Sortable;
+use crate::item::{SortOrder, Sortable};
 use iddqd_order::Place;
 use iddqd_store::{Costs, ItemIndex, Meter, SlotMap};
 
@@ -36,7 +36,7 @@ where
     /// asks for more capacity only if the map is full.
     pub fn try_insert(&mut self, item: M::Item) -> Result<(), M::Rejected>
         // The result is `Ok` only if no item has one of the keys, and then always if there is spare capacity.
-        ensures gains { OnOk result (Gains (by_sort M.Item.sort_key M.Item.SortKey.cmp M.first_key M.FirstKey.cmp) 1 self.old item self.new) }
+        ensures gains { OnOk result (Gains ⟦<M as SortOrder>⟧.order 1 self.old item self.new) }
         ensures free { OnOk result (conflicts_of M.ranks (items self.old) item ≡ []) }
         ensures granted { conflicts_of M.ranks (items self.old) item ≡ []
             → length (items self.old) < self.old.capacity → IsOk result }
@@ -57,7 +57,7 @@ where
         costs: &mut Costs,
         meter: &mut Meter,
     ) -> Result<(), M::Rejected>
-        ensures gains { OnOk result (Gains (by_sort M.Item.sort_key M.Item.SortKey.cmp M.first_key M.FirstKey.cmp) 1 self.old item self.new) }
+        ensures gains { OnOk result (Gains ⟦<M as SortOrder>⟧.order 1 self.old item self.new) }
         ensures free { OnOk result (conflicts_of M.ranks (items self.old) item ≡ []) }
         ensures granted { conflicts_of M.ranks (items self.old) item ≡ []
             → length (items self.old) < self.old.capacity → IsOk result }
@@ -94,7 +94,7 @@ where
         requires free { conflicts_of M.ranks (items self.old) item ≡ [] }
         requires free_slots { conflicts_of M.ranks (bag self.old) item ≡ [] }
         requires places { ArePlacesOf (M.hashes self.old.builder) (bag self.old) item (M.spots at) }
-        ensures gains { OnOk result (Gains (by_sort M.Item.sort_key M.Item.SortKey.cmp M.first_key M.FirstKey.cmp) wanted self.old item self.new) }
+        ensures gains { OnOk result (Gains ⟦<M as SortOrder>⟧.order wanted self.old item self.new) }
         ensures gained { OnOk result (IsPermutation (items self.new) (item ∷ items self.old)) }
         ensures granted { length (items self.old) < self.old.capacity → IsOk result }
         ensures handed_back { IfErr result (λ x. x ≡ item) }
@@ -134,7 +134,7 @@ where
         ensures hashed { IfErr result (λ found. AreHashed (M.hashes self.now.builder) self.now.slots (M.searched found)) }
         ensures same_conflicts { OnErr result (conflicting M.ranks (bag self.now) item.now ≡ conflicting M.ranks (items self.now) item.now) }
         ensures listed { IsPermutation (bag self.now) (items self.now) }
-        ensures ascending { IsAscending (by_sort M.Item.sort_key M.Item.SortKey.cmp M.first_key M.FirstKey.cmp) (items self.now) }
+        ensures ascending { IsAscending ⟦<M as SortOrder>⟧.order (items self.now) }
         ensures costs { SearchesEach (M.hashes self.now.builder) (bag self.now) self.now.capacity item.now costs.old costs.new }
     {
         self.map.places(item, costs)
@@ -153,7 +153,7 @@ where
         requires free { conflicts_of M.ranks (bag self.old) item ≡ [] }
         requires places { ArePlacesOf (M.hashes self.old.builder) (bag self.old) item (M.spots at) }
         requires gap { IsPlace self.old.blocks place
-            × IsSplit (λ y. by_sort M.Item.sort_key M.Item.SortKey.cmp M.first_key M.FirstKey.cmp y item) (items self.old)
+            × IsSplit (λ y. ⟦<M as SortOrder>⟧.order y item) (items self.old)
             (position self.old.blocks place) 0 }
         ensures inserted { items self.new ≡ insert (items self.old) (position self.old.blocks place) item }
         ensures kept { (self.new.capacity ≡ self.old.capacity) × (self.new.builder ≡ self.old.builder) }

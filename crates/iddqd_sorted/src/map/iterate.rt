@@ -2,12 +2,12 @@
 ghost use Rattle.std.specs.Prelude.{◌≡◌, ℕ, ◌+◌, ◌*◌, ◌^◌, ◌<◌, ◌≤◌, ◌&&◌, filter, length};
 ghost use Rattle.std.specs.Map.Iter.{ShowsInOrder, ShowsInReverse, deref};
 ghost use Rattle.std.specs.Ordering.{is_eq, is_lt, is_ge};
-ghost use Rattle.iddqd_sorted.specs.Items.{items, by_sort};
+ghost use Rattle.iddqd_sorted.specs.Items.{items};
 ghost use Rattle.iddqd_sorted.specs.Ordered.{IsAscending};
 ghost use Rattle.iddqd_order.specs.Walks.{MeetsFirst, MeetsLast};
 
 use super::Sorted;
-use crate::item::Sortable;
+use crate::item::{SortOrder, Sortable};
 use crate::iter::Iter;
 use iddqd_store::{Meter, SlotMap};
 use std::fmt::{self, Debug, Formatter, Write};
@@ -21,7 +21,7 @@ where
     /// `len` of the iterator takes one step.
     pub fn iter(&self) -> Iter<'_, M::Item>
         ensures gives { result ≡ items self.now }
-        ensures ascending { IsAscending (by_sort M.Item.sort_key M.Item.SortKey.cmp M.first_key M.FirstKey.cmp) (items self.now) }
+        ensures ascending { IsAscending ⟦<M as SortOrder>⟧.order (items self.now) }
         ensures runs { ShowsInOrder (deref {X = M.Item}) }
         ensures runs_back { ShowsInReverse (deref {X = M.Item}) }
         ensures meets_first { MeetsFirst M.Item }

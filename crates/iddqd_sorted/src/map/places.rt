@@ -3,12 +3,12 @@ ghost use Rattle.std.specs.Prelude.{◌≡◌, ℕ, ◌+◌, ◌*◌, ◌<◌, �
 ghost use Rattle.std.specs.List.{remove};
 ghost use Rattle.iddqd_store.specs.Rank.{walks_within};
 ghost use Rattle.iddqd_order.specs.Row.{position, HasEntry, IsPlace};
-ghost use Rattle.iddqd_sorted.specs.Items.{items, by_sort};
+ghost use Rattle.iddqd_sorted.specs.Items.{items};
 ghost use Rattle.iddqd_order.specs.Search.{IsSplit, IsStartOf, is_past};
 
 use super::Sorted;
 use crate::compare::{Before, Behind, ByItem};
-use crate::item::Sortable;
+use crate::item::{SortOrder, Sortable};
 use iddqd_order::Place;
 use iddqd_store::{Meter, SlotMap};
 
@@ -21,10 +21,10 @@ where
     /// it would go. If the last item went to the end, it first looks whether this one does too.
     pub(crate) fn place_of(&self, item: &M::Item, meter: &mut Meter) -> Result<Place, Place>
         ensures entry { IfOk result (HasEntry self.now.blocks) }
-        ensures found { IfOk result (λ p. IsSplit (λ y. by_sort M.Item.sort_key M.Item.SortKey.cmp M.first_key M.FirstKey.cmp y item.now)
+        ensures found { IfOk result (λ p. IsSplit (λ y. ⟦<M as SortOrder>⟧.order y item.now)
             (items self.now) (position self.now.blocks p) 1) }
         ensures place { IfErr result (IsPlace self.now.blocks) }
-        ensures gap { IfErr result (λ p. IsSplit (λ y. by_sort M.Item.sort_key M.Item.SortKey.cmp M.first_key M.FirstKey.cmp y item.now)
+        ensures gap { IfErr result (λ p. IsSplit (λ y. ⟦<M as SortOrder>⟧.order y item.now)
             (items self.now) (position self.now.blocks p) 0) }
         ensures asked { (r : ℕ) → length (items self.now) < 4 ^ r → meter.new ≤ meter.old + (3 * r + 19) }
     {

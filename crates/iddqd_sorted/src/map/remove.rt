@@ -4,13 +4,13 @@ ghost use Rattle.iddqd_store.specs.Bag.{IsOnly};
 ghost use Rattle.iddqd_store.specs.Map.{Loses};
 ghost use Rattle.iddqd_store.specs.Rank.{walks_within};
 ghost use Rattle.iddqd_store.specs.Slots.{get, IsLive, Updates};
-ghost use Rattle.iddqd_sorted.specs.Items.{items, bag, by_sort};
+ghost use Rattle.iddqd_sorted.specs.Items.{items, bag};
 ghost use Rattle.iddqd_sorted.specs.Keyed.{RemovingCosts};
 ghost use Rattle.iddqd_sorted.specs.Ordered.{IsAscending};
 ghost use Rattle.iddqd_sorted.specs.Overwriting.{map_of};
 
 use super::Sorted;
-use crate::item::Sortable;
+use crate::item::{SortOrder, Sortable};
 use iddqd_store::{Costs, FindsBy, ItemIndex, Meter, Query, SlotMap};
 
 impl<M: SlotMap> Sorted<M>
@@ -63,7 +63,7 @@ where
         ensures updates { Updates self.old.slots self.new.slots slot None }
         ensures loses { Loses (map_of self.old) (result ∷ []) (map_of self.new) }
         ensures left { IsPermutation (items self.old) (result ∷ items self.new) }
-        ensures ascending { IsAscending (by_sort M.Item.sort_key M.Item.SortKey.cmp M.first_key M.FirstKey.cmp) (items self.new) }
+        ensures ascending { IsAscending ⟦<M as SortOrder>⟧.order (items self.new) }
         ensures asked { (r : ℕ) → length (bag self.old) < 4 ^ r → meter.new ≤ meter.old + (3 * r + 19) }
         ensures probed { probed.new ≤ probed.old + walks_within (length (bag self.old)) (map (λ _. 1) M.ranks) }
     {

@@ -7,7 +7,6 @@ ghost use Rattle.iddqd_order.specs.Search.{IsSearchable, IsSplit};
 ghost use Rattle.iddqd_store.specs.Bag.{conflicts_of};
 ghost use Rattle.iddqd_store.specs.Slots.{contents, get, IsLive};
 ghost use Rattle.iddqd_sorted.specs.Entries.{IsListed};
-ghost use Rattle.iddqd_sorted.specs.Items.{by_sort};
 ghost use Rattle.iddqd_sorted.specs.Keeping.{ComparesOnceIf};
 ghost use Rattle.iddqd_sorted.specs.Settled.{ListsBefore, ListsOthers, Resettles, Settles};
 ghost use Rattle.iddqd_sorted.specs.declared.entry.Entry.{Entry};
@@ -15,7 +14,7 @@ ghost use Rattle.iddqd_sorted.specs.declared.entry.Entry.{Entry};
 use super::Sorted;
 use crate::compare::ByItem;
 use crate::entry::Entry;
-use crate::item::Sortable;
+use crate::item::{SortOrder, Sortable};
 use iddqd_order::{Blocks, Compare, Place};
 use iddqd_store::{ItemIndex, Meter, SlotMap};
 use std::cmp::Ordering;
@@ -33,7 +32,7 @@ where
         meter: &mut Meter,
     ) -> Place
         requires live { IsLive (M.shown map.now).slots slot }
-        requires listed { IsListed (by_sort M.Item.sort_key M.Item.SortKey.cmp M.first_key M.FirstKey.cmp) M.Item.sort_key M.Item.SortKey.cmp
+        requires listed { IsListed ⟦<M as SortOrder>⟧.order M.Item.sort_key M.Item.SortKey.cmp
             (M.shown map.now).slots (line order.now.blocks) }
         ensures entry { HasEntry order.now.blocks result }
         ensures slot { (d : Entry M.Item.SortKey) → (slice_index_or (line order.now.blocks) (position order.now.blocks result) d).slot ≡ slot }
@@ -98,7 +97,7 @@ where
             (M.shown map.now).slots slot before (line order.old.blocks) }
         requires free { (x : M.Item) → get (M.shown map.now).slots slot ≡ Some x
             → conflicts_of M.ranks (contents (slice_set (M.shown map.now).slots slot None)) x ≡ [] }
-        ensures settles { Resettles (by_sort M.Item.sort_key M.Item.SortKey.cmp M.first_key M.FirstKey.cmp) M.Item.sort_key M.Item.SortKey.cmp
+        ensures settles { Resettles ⟦<M as SortOrder>⟧.order M.Item.sort_key M.Item.SortKey.cmp
             (M.shown map.now).slots slot (line order.old.blocks) (line order.new.blocks) }
         ensures capacity { order.new.capacity ≡ order.old.capacity }
         ensures asked { (r : ℕ) → length (line order.old.blocks) < 4 ^ r → meter.new ≤ meter.old + (6 * r + 38) }
@@ -126,10 +125,10 @@ where
         requires live { IsLive (M.shown map.now).slots slot }
         requires free { (x : M.Item) → get (M.shown map.now).slots slot ≡ Some x
             → conflicts_of M.ranks (contents (slice_set (M.shown map.now).slots slot None)) x ≡ [] }
-        requires others { ListsOthers (by_sort M.Item.sort_key M.Item.SortKey.cmp M.first_key M.FirstKey.cmp) M.Item.sort_key M.Item.SortKey.cmp
+        requires others { ListsOthers ⟦<M as SortOrder>⟧.order M.Item.sort_key M.Item.SortKey.cmp
             (M.shown map.now).slots slot (line order.old.blocks) }
         requires room { length (line order.old.blocks) < order.old.capacity }
-        ensures settles { Settles (by_sort M.Item.sort_key M.Item.SortKey.cmp M.first_key M.FirstKey.cmp) M.Item.sort_key M.Item.SortKey.cmp
+        ensures settles { Settles ⟦<M as SortOrder>⟧.order M.Item.sort_key M.Item.SortKey.cmp
             (M.shown map.now).slots slot (line order.old.blocks) (line order.new.blocks) }
         ensures capacity { order.new.capacity ≡ order.old.capacity }
         ensures asked { (r : ℕ) → length (line order.old.blocks) < 4 ^ r → meter.new ≤ meter.old + (3 * r + 19) }
@@ -161,10 +160,10 @@ where
         requires live { IsLive (M.shown map.now).slots slot }
         requires free { (x : M.Item) → get (M.shown map.now).slots slot ≡ Some x
             → conflicts_of M.ranks (contents (slice_set (M.shown map.now).slots slot None)) x ≡ [] }
-        requires others { ListsOthers (by_sort M.Item.sort_key M.Item.SortKey.cmp M.first_key M.FirstKey.cmp) M.Item.sort_key M.Item.SortKey.cmp
+        requires others { ListsOthers ⟦<M as SortOrder>⟧.order M.Item.sort_key M.Item.SortKey.cmp
             (M.shown map.now).slots slot (remove (line order.old.blocks) (position order.old.blocks place)) }
         requires fits { length (line order.old.blocks) ≤ order.old.capacity }
-        ensures settles { Settles (by_sort M.Item.sort_key M.Item.SortKey.cmp M.first_key M.FirstKey.cmp) M.Item.sort_key M.Item.SortKey.cmp
+        ensures settles { Settles ⟦<M as SortOrder>⟧.order M.Item.sort_key M.Item.SortKey.cmp
             (M.shown map.now).slots slot (remove (line order.old.blocks) (position order.old.blocks place)) (line order.new.blocks) }
         ensures capacity { order.new.capacity ≡ order.old.capacity }
         ensures asked { (r : ℕ) → length (line order.old.blocks) < 4 ^ r → meter.new ≤ meter.old + (3 * r + 21) }

@@ -5,12 +5,12 @@ ghost use Rattle.iddqd_store.specs.Map.{bag, shrunk_to};
 ghost use Rattle.iddqd_store.specs.Slots.{contents, IsLive};
 ghost use Rattle.iddqd_order.specs.Row.{entries_in, line};
 ghost use Rattle.iddqd_sorted.specs.Entries.{IsListed};
-ghost use Rattle.iddqd_sorted.specs.Items.{items, by_sort};
+ghost use Rattle.iddqd_sorted.specs.Items.{items};
 
 use super::Sorted;
 use crate::compare::ByItem;
 use crate::entry::Entry;
-use crate::item::Sortable;
+use crate::item::{SortOrder, Sortable};
 use iddqd_order::Blocks;
 use iddqd_store::{ItemIndex, ItemSet, Meter, SlotMap, TryReserveError};
 
@@ -87,7 +87,7 @@ where
     requires none { entries_in order.old ≡ [] }
     requires fits { length (bag (M.shown map.now)) ≤ order.old.capacity }
     requires sound { IsSound M.ranks (bag (M.shown map.now)) }
-    ensures listed { IsListed (by_sort M.Item.sort_key M.Item.SortKey.cmp M.first_key M.FirstKey.cmp) M.Item.sort_key M.Item.SortKey.cmp
+    ensures listed { IsListed ⟦<M as SortOrder>⟧.order M.Item.sort_key M.Item.SortKey.cmp
         (M.shown map.now).slots (line order.new.blocks) }
     ensures capacity { order.new.capacity ≡ order.old.capacity }
 {
@@ -110,11 +110,11 @@ where
     M::Item: Sortable,
     M::FirstKey: Ord,
     requires live { IsLive slots.now.slots slot }
-    requires listed { IsListed (by_sort M.Item.sort_key M.Item.SortKey.cmp M.first_key M.FirstKey.cmp) M.Item.sort_key M.Item.SortKey.cmp
+    requires listed { IsListed ⟦<M as SortOrder>⟧.order M.Item.sort_key M.Item.SortKey.cmp
         (take slot slots.now.slots) (line order.old.blocks) }
     requires room { length (entries_in order.old) < order.old.capacity }
     requires sound { IsSound M.ranks (contents slots.now.slots) }
-    ensures listed { IsListed (by_sort M.Item.sort_key M.Item.SortKey.cmp M.first_key M.FirstKey.cmp) M.Item.sort_key M.Item.SortKey.cmp
+    ensures listed { IsListed ⟦<M as SortOrder>⟧.order M.Item.sort_key M.Item.SortKey.cmp
         (take (slot + 1) slots.now.slots) (line order.new.blocks) }
     ensures capacity { order.new.capacity ≡ order.old.capacity }
 {

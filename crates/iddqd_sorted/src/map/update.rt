@@ -3,12 +3,12 @@ ghost use Rattle.std.specs.Prelude.{◌≡◌, ℕ, ◌+◌, ◌*◌, ◌^◌, �
 ghost use Rattle.std.specs.Fn.{FnOnceReturnsAt, FnOnceTakesAt};
 ghost use Rattle.std.specs.List.{list_any};
 ghost use Rattle.iddqd_store.specs.Bag.{IsOnly};
-ghost use Rattle.iddqd_sorted.specs.Items.{items, by_sort};
+ghost use Rattle.iddqd_sorted.specs.Items.{items};
 ghost use Rattle.iddqd_sorted.specs.Keeping.{ComparesOnceIf, KeepsSortKey};
 ghost use Rattle.iddqd_sorted.specs.Keyed.{MapsOne, StoresOne};
 
 use super::Sorted;
-use crate::item::Sortable;
+use crate::item::{SortOrder, Sortable};
 use iddqd_store::{Costs, FindsBy, Meter, Query, SlotMap, StoresData};
 
 impl<M: SlotMap> Sorted<M>
@@ -38,10 +38,10 @@ where
             → M.FirstKey.eq (M.first_key (⟦<M as StoresData>⟧.put x d)) (M.first_key x) ≡ true }
         ensures any_found { result ≡ list_any (λ y. Q.stands_for query (⟦<M as FindsBy<R>>⟧.key y)) (items self.old) }
         ensures stores { result ≡ true → StoresOne (FnOnceReturnsAt F.FnOnce f) ⟦<M as StoresData>⟧.put
-            (by_sort M.Item.sort_key M.Item.SortKey.cmp M.first_key M.FirstKey.cmp)
+            ⟦<M as SortOrder>⟧.order
             (λ y. Q.stands_for query (⟦<M as FindsBy<R>>⟧.key y)) (items self.old) (items self.new) }
         ensures maps { MapsOne (FnOnceReturnsAt F.FnOnce f) ⟦<M as StoresData>⟧.put
-            (by_sort M.Item.sort_key M.Item.SortKey.cmp M.first_key M.FirstKey.cmp)
+            ⟦<M as SortOrder>⟧.order
             (λ y. Q.stands_for query (⟦<M as FindsBy<R>>⟧.key y)) (items self.old) (items self.new) }
         ensures absent { result ≡ false → self.new ≡ self.old }
         ensures capacity { self.new.capacity ≡ self.old.capacity }
