@@ -94,10 +94,10 @@ module _ {T K : Type 0} (sort : T → K) (cmp : K → K → Ordering) where
   is_to (Excluded k) x = is_lt (cmp (sort x) k)
   is_to Unbounded x = true
 
-  -- `within` tells whether the sort key of an item is between two bounds.
+  -- `is_within` tells whether the sort key of an item is between two bounds.
   -- Example: Between `Included 3` and `Excluded 5` are 3 and 4.
-  abbrev pub within : Bound K → Bound K → T → Bool
-  within low high x = is_from low x && is_to high x
+  abbrev pub is_within : Bound K → Bound K → T → Bool
+  is_within low high x = is_from low x && is_to high x
 
 -- `most_extended` is the highest capacity of a map that was extended, if with what came there would be so many items at most: twice
 -- what it was, or room for nine times as many items, or for 65,536 more.

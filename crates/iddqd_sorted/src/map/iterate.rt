@@ -1,7 +1,7 @@
 //! Iterating over the items in their order.
-ghost use Rattle.std.specs.Prelude.{◌≡◌, ℕ, ◌+◌, ◌*◌, ◌^◌, ◌<◌, ◌≤◌, ◌&&◌, filter, length};
+ghost use Rattle.std.specs.Prelude.{◌≡◌, ℕ, ◌+◌, ◌*◌, ◌^◌, ◌<◌, ◌≤◌, filter, length};
 ghost use Rattle.std.specs.Map.Iter.{ShowsInOrder, ShowsInReverse, deref};
-ghost use Rattle.std.specs.Ordering.{is_eq, is_lt, is_ge};
+ghost use Rattle.std.specs.Ordering.{is_eq};
 ghost use Rattle.iddqd_sorted.specs.Items.{items};
 ghost use Rattle.iddqd_sorted.specs.Ordered.{IsAscending};
 ghost use Rattle.iddqd_order.specs.Walks.{MeetsFirst, MeetsLast};
@@ -60,50 +60,8 @@ where
         ensures countable { length result < 2 ^ 64 }
         ensures asked { (r : ℕ) → length (items self.now) < 4 ^ r → meter.new ≤ meter.old + (6 * r + 38) }
     {
-        let from = self.place_before(sort_key, meter);
-        let to = self.place_behind(sort_key, meter);
-        Iter::over(self.map.slots(), self.order.range(from, to))
-    }
-
-    /// Iterates over the items from a sort key on and before another one, in their order, from both ends. There are none if the
-    /// second is not the higher one.
-    ///
-    /// Among fewer than `4 ^ r` items the call compares at most `6 * r + 38` sort keys. It allocates no memory.
-    pub fn between(
-        &self,
-        from: &<M::Item as Sortable>::SortKey,
-        before: &<M::Item as Sortable>::SortKey,
-    ) -> Iter<'_, M::Item>
-        ensures gives { result ≡ filter (λ x. is_ge (M.Item.SortKey.cmp (M.Item.sort_key x) from.now)
-            && is_lt (M.Item.SortKey.cmp (M.Item.sort_key x) before.now)) (items self.now) }
-        ensures runs { ShowsInOrder (deref {X = M.Item}) }
-        ensures runs_back { ShowsInReverse (deref {X = M.Item}) }
-        ensures meets_first { MeetsFirst M.Item }
-        ensures meets_last { MeetsLast M.Item }
-        ensures countable { length result < 2 ^ 64 }
-    {
-        self.between_counted(from, before, &mut Meter::new())
-    }
-
-    /// Iterates as `between` does, which calls it, and counts the comparisons.
-    #[inline(always)]
-    fn between_counted(
-        &self,
-        from: &<M::Item as Sortable>::SortKey,
-        before: &<M::Item as Sortable>::SortKey,
-        meter: &mut Meter,
-    ) -> Iter<'_, M::Item>
-        ensures gives { result ≡ filter (λ x. is_ge (M.Item.SortKey.cmp (M.Item.sort_key x) from.now)
-            && is_lt (M.Item.SortKey.cmp (M.Item.sort_key x) before.now)) (items self.now) }
-        ensures runs { ShowsInOrder (deref {X = M.Item}) }
-        ensures runs_back { ShowsInReverse (deref {X = M.Item}) }
-        ensures meets_first { MeetsFirst M.Item }
-        ensures meets_last { MeetsLast M.Item }
-        ensures countable { length result < 2 ^ 64 }
-        ensures asked { (r : ℕ) → length (items self.now) < 4 ^ r → meter.new ≤ meter.old + (6 * r + 38) }
-    {
-        let from = self.place_before(from, meter);
-        let to = self.place_before(before, meter);
+        let from = self.lower_bound(sort_key, meter);
+        let to = self.upper_bound(sort_key, meter);
         Iter::over(self.map.slots(), self.order.range(from, to))
     }
 }

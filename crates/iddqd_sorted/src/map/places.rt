@@ -37,7 +37,7 @@ where
     }
 
     /// Returns the place of the first item whose sort key is not lower than this one. It is the end if there is none.
-    pub(crate) fn place_before(
+    pub(crate) fn lower_bound(
         &self,
         sort_key: &<M::Item as Sortable>::SortKey,
         meter: &mut Meter,
@@ -54,7 +54,7 @@ where
     }
 
     /// Returns the place of the first item whose sort key is higher than this one. It is the end if there is none.
-    pub(crate) fn place_behind(
+    pub(crate) fn upper_bound(
         &self,
         sort_key: &<M::Item as Sortable>::SortKey,
         meter: &mut Meter,

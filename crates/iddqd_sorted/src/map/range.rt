@@ -3,7 +3,7 @@ ghost use Rattle.std.specs.Prelude.{◌≡◌, ℕ, ◌+◌, ◌*◌, ◌^◌, �
 ghost use Rattle.std.specs.Map.Iter.{ShowsInOrder, ShowsInReverse, deref};
 ghost use Rattle.std.specs.Range.Bound.{bound_map};
 ghost use Rattle.iddqd_order.specs.Row.{position, IsPlace};
-ghost use Rattle.iddqd_sorted.specs.Items.{items, is_from, is_to, within};
+ghost use Rattle.iddqd_sorted.specs.Items.{items, is_from, is_to, is_within};
 ghost use Rattle.iddqd_order.specs.Search.{IsStartOf};
 ghost use Rattle.iddqd_order.specs.Walks.{MeetsFirst, MeetsLast};
 
@@ -28,7 +28,7 @@ where
         range: R,
     ) -> Iter<'_, M::Item>
         ensures gives { R.has_bounds range → result
-            ≡ filter (within M.Item.sort_key M.Item.SortKey.cmp (R.start_bound range) (R.end_bound range)) (items self.now) }
+            ≡ filter (is_within M.Item.sort_key M.Item.SortKey.cmp (R.start_bound range) (R.end_bound range)) (items self.now) }
         ensures runs { ShowsInOrder (deref {X = M.Item}) }
         ensures runs_back { ShowsInReverse (deref {X = M.Item}) }
         ensures meets_first { MeetsFirst M.Item }
@@ -46,7 +46,7 @@ where
         meter: &mut Meter,
     ) -> Iter<'_, M::Item>
         ensures gives { R.has_bounds range → result
-            ≡ filter (within M.Item.sort_key M.Item.SortKey.cmp (R.start_bound range) (R.end_bound range)) (items self.now) }
+            ≡ filter (is_within M.Item.sort_key M.Item.SortKey.cmp (R.start_bound range) (R.end_bound range)) (items self.now) }
         ensures runs { ShowsInOrder (deref {X = M.Item}) }
         ensures runs_back { ShowsInReverse (deref {X = M.Item}) }
         ensures meets_first { MeetsFirst M.Item }
@@ -54,35 +54,35 @@ where
         ensures countable { length result < 2 ^ 64 }
         ensures asked { (r : ℕ) → length (items self.now) < 4 ^ r → meter.new ≤ meter.old + (6 * r + 38) }
     {
-        let from = self.first_from(range.start_bound(), meter);
-        let to = self.first_past(range.end_bound(), meter);
+        let from = self.range_start(range.start_bound(), meter);
+        let to = self.range_end(range.end_bound(), meter);
         Iter::over(self.map.slots(), self.order.range(from, to))
     }
 
     /// Returns the place of the first item that is not before a lower bound, or the end if there is none.
-    fn first_from(&self, low: Bound<&<M::Item as Sortable>::SortKey>, meter: &mut Meter) -> Place
+    fn range_start(&self, low: Bound<&<M::Item as Sortable>::SortKey>, meter: &mut Meter) -> Place
         ensures place { IsPlace self.now.blocks result }
         ensures starts { IsStartOf (is_from M.Item.sort_key M.Item.SortKey.cmp (bound_map (λ k. k.now) low.entry)) (items self.now)
             (position self.now.blocks result) }
         ensures asked { (r : ℕ) → length (items self.now) < 4 ^ r → meter.new ≤ meter.old + (3 * r + 19) }
     {
         match low {
-            Bound::Included(sort_key) => self.place_before(sort_key, meter),
-            Bound::Excluded(sort_key) => self.place_behind(sort_key, meter),
+            Bound::Included(sort_key) => self.lower_bound(sort_key, meter),
+            Bound::Excluded(sort_key) => self.upper_bound(sort_key, meter),
             Bound::Unbounded => self.order.start(),
         }
     }
 
     /// Returns the place of the first item that is behind an upper bound, or the end if there is none.
-    fn first_past(&self, high: Bound<&<M::Item as Sortable>::SortKey>, meter: &mut Meter) -> Place
+    fn range_end(&self, high: Bound<&<M::Item as Sortable>::SortKey>, meter: &mut Meter) -> Place
         ensures place { IsPlace self.now.blocks result }
         ensures starts { IsStartOf (λ x. not (is_to M.Item.sort_key M.Item.SortKey.cmp (bound_map (λ k. k.now) high.entry) x)) (items self.now)
             (position self.now.blocks result) }
         ensures asked { (r : ℕ) → length (items self.now) < 4 ^ r → meter.new ≤ meter.old + (3 * r + 19) }
     {
         match high {
-            Bound::Included(sort_key) => self.place_behind(sort_key, meter),
-            Bound::Excluded(sort_key) => self.place_before(sort_key, meter),
+            Bound::Included(sort_key) => self.upper_bound(sort_key, meter),
+            Bound::Excluded(sort_key) => self.lower_bound(sort_key, meter),
             Bound::Unbounded => self.order.end(),
         }
     }

@@ -18,8 +18,8 @@ over-requires g c = rw (c.slots.ensures, c.range.ensures) (All-range (λ e. IsLi
 pub returns-clause-gives : goal.returns-clause-gives
 returns-clause-gives g c =
     let at = λ (x : g.row.M-Item.Denot). g.M.Item.SortKey.Ord.cmp (g.M.Item.Sortable.sort_key x) c.args.sort_key.now in
-    let from = rw (← c.self.view_is) at c.place_before-from.ensures.starts in
-    let to = IsStartOf-same (λ x. is_gt (at x)) (λ x. not (is_le (at x))) (λ x. not_le (at x)) _ _ (rw (← c.self.view_is) at c.place_behind-to.ensures.starts) in
+    let from = rw (← c.self.view_is) at c.lower_bound-from.ensures.starts in
+    let to = IsStartOf-same (λ x. is_gt (at x)) (λ x. not (is_le (at x))) (λ x. not_le (at x)) _ _ (rw (← c.self.view_is) at c.upper_bound-to.ensures.starts) in
     rw (← c.self.view_is) ((rw (c.slots.ensures, c.range.ensures) at c.over.ensures.gives)
     ∙ items-range (item_in (g.M.SlotMap.shown c.self.inside.map).slots) (line c.self.inside.order.blocks) _ _ c.self.invariant.live
     ∙ sym (filter-between (λ x. is_ge (at x)) (λ x. is_le (at x)) _ _ _ from to)

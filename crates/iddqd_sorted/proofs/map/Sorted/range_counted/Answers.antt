@@ -14,8 +14,8 @@ over-requires g c = rw (c.slots.ensures, c.range.ensures) (All-range (λ e. IsLi
 
 pub returns-clause-gives : goal.returns-clause-gives
 returns-clause-gives g c = λ has.
-    (let from = rw (c.start_bound.ensures has, ← c.self.view_is) at c.first_from-from.ensures.starts in
-    let to = rw (c.end_bound.ensures has, ← c.self.view_is) at c.first_past-to.ensures.starts in
+    (let from = rw (c.start_bound.ensures has, ← c.self.view_is) at c.range_start-from.ensures.starts in
+    let to = rw (c.end_bound.ensures has, ← c.self.view_is) at c.range_end-to.ensures.starts in
     rw (← c.self.view_is) ((rw (c.slots.ensures, c.range.ensures) at c.over.ensures.gives)
     ∙ items-range (item_in (g.M.SlotMap.shown c.self.inside.map).slots) (line c.self.inside.order.blocks) _ _ c.self.invariant.live
     ∙ sym (filter-between _ _ _ _ _ from to)))
