@@ -1,7 +1,9 @@
 //! The trait of items with a sort key.
-ghost use Rattle.std.specs.Prelude.{◌≡◌};
+ghost use Rattle.std.specs.Prelude.{◌≡◌, List, Option};
 ghost use Rattle.std.specs.declared.cmp.Ordering.{Ordering};
+ghost use Rattle.iddqd_sorted.specs.Entries.{IsListed};
 ghost use Rattle.iddqd_sorted.specs.Items.{by_sort};
+ghost use Rattle.iddqd_sorted.specs.declared.entry.Entry.{Entry};
 
 use iddqd_store::SlotMap;
 
@@ -44,6 +46,9 @@ where
 {
     // Compares two items.
     ghost order: { Self.Item → Self.Item → Ordering };
+
+    // Whether the entries are those of the slots that have an item, each with its item's sort key, and the items ascend.
+    ghost Lists: { List (Option Self.Item) → List (Entry Self.Item.SortKey) → Type 0 };
 }
 
 impl<M: SlotMap> SortOrder for M
@@ -52,4 +57,6 @@ where
     M::FirstKey: Ord,
 {
     ghost order = { by_sort M.Item.sort_key M.Item.SortKey.cmp M.first_key M.FirstKey.cmp };
+
+    ghost Lists = { IsListed (by_sort M.Item.sort_key M.Item.SortKey.cmp M.first_key M.FirstKey.cmp) M.Item.sort_key M.Item.SortKey.cmp };
 }

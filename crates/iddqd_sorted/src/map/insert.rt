@@ -1,14 +1,13 @@
 //! Inserting an item whose keys no other has.
-ghost use Rattle.std.specs.Prelude.{◌≡◌, ◌≢◌, ℕ, ◌+◌, ◌*◌, ◌^◌, ◌<◌, ◌≤◌, [], ◌∷◌, length, map, Some, None, if◌then◌else◌, is_some, is_ok, IsOk, OnOk, OnErr, IfOk, IfErr, IsPermutation};
+ghost use Rattle.std.specs.Prelude.{◌≡◌, ℕ, ◌+◌, ◌*◌, ◌^◌, ◌<◌, ◌≤◌, [], ◌∷◌, length, map, Some, None, if◌then◌else◌, is_ok, IsOk, OnOk, OnErr, IfOk, IfErr, IsPermutation};
 ghost use Rattle.std.specs.List.{insert};
-ghost use Rattle.iddqd_store.specs.Bag.{conflicting, conflicts_of, tests_of};
+ghost use Rattle.iddqd_store.specs.Bag.{conflicts_of};
 ghost use Rattle.iddqd_store.specs.Rank.{walks_within};
-ghost use Rattle.iddqd_store.specs.Rank.All.{AreHashed, ArePlacesOf, HaveHashes, PlacingCosts, hashes_of};
-ghost use Rattle.iddqd_store.specs.SlotMap.{AreAny, NoneTrue, SearchesEach};
+ghost use Rattle.iddqd_store.specs.Rank.All.{ArePlacesOf, PlacingCosts, hashes_of};
+ghost use Rattle.iddqd_store.specs.SlotMap.{SearchesEach};
 ghost use Rattle.iddqd_store.specs.Slots.{get, Updates};
-ghost use Rattle.iddqd_store.specs.Slots.Found.{StandAt, each_once};
 ghost use Rattle.iddqd_order.specs.Row.{position, IsPlace};
-ghost use Rattle.iddqd_sorted.specs.Inserts.{TellsWhy};
+ghost use Rattle.iddqd_sorted.specs.Inserts.{FindsTaken, TellsWhy};
 ghost use Rattle.iddqd_sorted.specs.Items.{items, bag, Gains};
 ghost use Rattle.iddqd_sorted.specs.Ordered.{IsAscending};
 ghost use Rattle.iddqd_order.specs.Search.{IsSplit};
@@ -124,15 +123,7 @@ where
         ensures free { OnOk result (conflicts_of M.ranks (items self.now) item.now ≡ []) }
         ensures free_slots { OnOk result (conflicts_of M.ranks (bag self.now) item.now ≡ []) }
         ensures places { IfOk result (λ at. ArePlacesOf (M.hashes self.now.builder) (bag self.now) item.now (M.spots at)) }
-        ensures taken { IfErr result (λ found. AreAny (map (λ at. is_some at.slot) (M.searched found))
-            (tests_of M.ranks item.now) (items self.now)) }
-        ensures conflict { OnErr result (conflicts_of M.ranks (items self.now) item.now ≢ []) }
-        ensures some { IfErr result (λ found. NoneTrue (map (λ at. is_some at.slot) (M.searched found)) → ⊥) }
-        ensures stand { IfErr result (λ found. StandAt self.now.slots (each_once (map (λ at. at.slot) (M.searched found)))
-            (conflicting M.ranks (bag self.now) item.now)) }
-        ensures hashes { IfErr result (λ found. HaveHashes (hashes_of (M.hashes self.now.builder) item.now) (M.searched found)) }
-        ensures hashed { IfErr result (λ found. AreHashed (M.hashes self.now.builder) self.now.slots (M.searched found)) }
-        ensures same_conflicts { OnErr result (conflicting M.ranks (bag self.now) item.now ≡ conflicting M.ranks (items self.now) item.now) }
+        ensures finds { IfErr result (λ found. FindsTaken M.ranks (M.hashes self.now.builder) self.now item.now (M.searched found)) }
         ensures listed { IsPermutation (bag self.now) (items self.now) }
         ensures ascending { IsAscending ⟦<M as SortOrder>⟧.order (items self.now) }
         ensures costs { SearchesEach (M.hashes self.now.builder) (bag self.now) self.now.capacity item.now costs.old costs.new }

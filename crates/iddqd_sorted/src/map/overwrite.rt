@@ -1,17 +1,19 @@
 //! Inserting an item in place of those that conflict with it.
-ghost use Rattle.std.specs.Prelude.{◌≡◌, ◌≢◌, ℕ, ◌+◌, ◌*◌, ◌^◌, ◌<◌, ◌≤◌, [], ◌∷◌, All, length, map, nat_eq, None, Some, ◌++◌, IsOk, OnOk, OnErr, IfOk, IfErr, IsPermutation, slice_set};
+ghost use Rattle.std.specs.Prelude.{◌≡◌, ℕ, ◌+◌, ◌*◌, ◌^◌, ◌<◌, ◌≤◌, [], ◌∷◌, All, length, map, nat_eq, None, Some, ◌++◌, IsOk, OnOk, OnErr, IfOk, IfErr, IsPermutation, slice_set};
 ghost use Rattle.std.specs.List.{IsDistinct};
 ghost use Rattle.iddqd_store.specs.Bag.{conflicting, conflicts_of};
 ghost use Rattle.iddqd_store.specs.Map.{Loses, PutsAt};
 ghost use Rattle.iddqd_store.specs.Rank.{walks_within};
 ghost use Rattle.iddqd_store.specs.Rank.All.{AreHashed, HaveHashes, PlacingCosts, hashes_of};
 ghost use Rattle.iddqd_store.specs.Slots.{contents, get, IsLive};
-ghost use Rattle.iddqd_store.specs.Slots.Found.{StandAt, each_once, items_at};
+ghost use Rattle.iddqd_store.specs.Slots.Found.{items_at};
+ghost use Rattle.iddqd_sorted.specs.Inserts.{FindsTaken};
 ghost use Rattle.iddqd_sorted.specs.Items.{items, bag, IsFullFor};
 ghost use Rattle.iddqd_sorted.specs.Ordered.{IsAscending};
 ghost use Rattle.iddqd_sorted.specs.Overwriting.{Overwrites, map_of};
 
 use super::Sorted;
+use super::settle::{place_of_slot, settle};
 use crate::item::{SortOrder, Sortable};
 use iddqd_store::{Costs, ItemIndex, MemoryRefused, Meter, SlotMap, UpToThree};
 
@@ -89,11 +91,7 @@ where
         probed: &mut Meter,
         meter: &mut Meter,
     ) -> UpToThree<M::Item>
-        requires stand { StandAt self.old.slots (each_once (map (λ at. at.slot) (M.searched found.now)))
-            (conflicting M.ranks (bag self.old) item) }
-        requires some { conflicting M.ranks (bag self.old) item ≢ [] }
-        requires hashes { HaveHashes (hashes_of (M.hashes self.old.builder) item) (M.searched found.now) }
-        requires hashed { AreHashed (M.hashes self.old.builder) self.old.slots (M.searched found.now) }
+        requires finds { FindsTaken M.ranks (M.hashes self.old.builder) self.old item (M.searched found.now) }
         ensures displaced { result ≡ conflicting M.ranks (bag self.old) item }
         ensures rest { (left : _) × IsPermutation (bag self.old) (conflicting M.ranks (bag self.old) item ++ left)
             × IsPermutation (bag self.new) (item ∷ left) }
@@ -161,11 +159,11 @@ where
         ensures asked { (r : ℕ) → length (bag self.old) < 4 ^ r → meter.new ≤ meter.old + 2 * (3 * r + 19) }
         ensures probed { probed.new ≤ probed.old + walks_within (length (bag self.old)) (map (λ _. 2) M.ranks) }
     {
-        let place = Sorted::<M>::place_of_slot(&self.map, &self.order, slot, meter);
+        let place = place_of_slot(&self.map, &self.order, slot, meter);
         // The map goes first: it may hash keys, which runs code of the caller, and the order does not.
         let gone = self.map.overwrite_at(slot, item, found, probed);
         let _ = self.order.remove(place);
-        Sorted::<M>::settle(&self.map, &mut self.order, slot, meter);
+        settle(&self.map, &mut self.order, slot, meter);
         gone
     }
 }

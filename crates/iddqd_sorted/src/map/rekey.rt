@@ -7,6 +7,7 @@ ghost use Rattle.iddqd_sorted.specs.Keeping.{ComparesOnceIf, SharePlace};
 ghost use Rattle.iddqd_sorted.specs.Keyed.{RekeyingCosts, TellsWhyRefused, refused_item};
 
 use super::Sorted;
+use super::settle::{place_of_slot, resettle};
 use crate::item::{SortOrder, Sortable};
 use iddqd_store::{Costs, FindsBy, Meter, Query, SlotMap};
 
@@ -64,10 +65,10 @@ where
             return Err(Refused::Absent(item));
         };
         if !self.is_level(slot, &item, meter) {
-            let place = Sorted::<M>::place_of_slot(&self.map, &self.order, slot, meter);
+            let place = place_of_slot(&self.map, &self.order, slot, meter);
             return match self.map.rekey_at(slot, item, costs) {
                 Ok(gone) => {
-                    Sorted::<M>::resettle(&self.map, &mut self.order, place, slot, meter);
+                    resettle(&self.map, &mut self.order, place, slot, meter);
                     Ok(gone)
                 }
                 Err(item) => Err(Refused::Conflict(item)),

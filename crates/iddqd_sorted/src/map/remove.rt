@@ -10,6 +10,7 @@ ghost use Rattle.iddqd_sorted.specs.Ordered.{IsAscending};
 ghost use Rattle.iddqd_sorted.specs.Overwriting.{map_of};
 
 use super::Sorted;
+use super::settle::place_of_slot;
 use crate::item::{SortOrder, Sortable};
 use iddqd_store::{Costs, FindsBy, ItemIndex, Meter, Query, SlotMap};
 
@@ -43,7 +44,7 @@ where
         let Some((slot, hash)) = self.map.slot_by(query, costs) else {
             return None;
         };
-        let place = Sorted::<M>::place_of_slot(&self.map, &self.order, slot, meter);
+        let place = place_of_slot(&self.map, &self.order, slot, meter);
         // The map goes first: it may hash keys, which runs code of the caller, and the order does not.
         let gone = self.map.remove_by(slot, hash, &mut costs.probed);
         let _ = self.order.remove(place);
@@ -67,7 +68,7 @@ where
         ensures asked { (r : ℕ) → length (bag self.old) < 4 ^ r → meter.new ≤ meter.old + (3 * r + 19) }
         ensures probed { probed.new ≤ probed.old + walks_within (length (bag self.old)) (map (λ _. 1) M.ranks) }
     {
-        let place = Sorted::<M>::place_of_slot(&self.map, &self.order, slot, meter);
+        let place = place_of_slot(&self.map, &self.order, slot, meter);
         // The map goes first: it may hash keys, which runs code of the caller, and the order does not.
         let gone = self.map.remove_at(slot, probed);
         let _ = self.order.remove(place);

@@ -10,6 +10,7 @@ ghost use Rattle.iddqd_sorted.specs.Items.{items, bag, with_item};
 ghost use Rattle.iddqd_sorted.specs.Keeping.{ComparesOnceIf, SharePlace};
 
 use super::Sorted;
+use super::settle::{place_of_slot, resettle};
 use crate::item::{SortOrder, Sortable};
 use iddqd_store::{Costs, ItemIndex, Meter, SlotMap};
 use std::cmp::Ordering;
@@ -135,9 +136,9 @@ where
         ensures builder { self.new.builder ≡ self.old.builder }
         ensures asked { (r : ℕ) → length (items self.old) < 4 ^ r → meter.new ≤ meter.old + (6 * r + 37) }
     {
-        let place = Sorted::<M>::place_of_slot(&self.map, &self.order, slot, meter);
+        let place = place_of_slot(&self.map, &self.order, slot, meter);
         let gone = self.map.replace_at(slot, item);
-        Sorted::<M>::resettle(&self.map, &mut self.order, place, slot, meter);
+        resettle(&self.map, &mut self.order, place, slot, meter);
         gone
     }
 }

@@ -4,14 +4,12 @@ ghost use Rattle.iddqd_store.specs.Bag.{IsSound};
 ghost use Rattle.iddqd_store.specs.Map.{bag, shrunk_to};
 ghost use Rattle.iddqd_store.specs.Slots.{contents, IsLive};
 ghost use Rattle.iddqd_order.specs.Row.{entries_in, line};
-ghost use Rattle.iddqd_sorted.specs.Entries.{IsListed};
 ghost use Rattle.iddqd_sorted.specs.Items.{items};
 
 use super::Sorted;
 use crate::compare::ByItem;
-use crate::entry::Entry;
+use crate::entry::{Entry, Order};
 use crate::item::{SortOrder, Sortable};
-use iddqd_order::Blocks;
 use iddqd_store::{ItemIndex, ItemSet, Meter, SlotMap, TryReserveError};
 
 impl<M: SlotMap> Sorted<M>
@@ -80,15 +78,14 @@ where
 }
 
 /// Lists each item of a map in an order that lists none, one slot after another.
-fn list_anew<M: SlotMap>(map: &M, order: &mut Blocks<Entry<<M::Item as Sortable>::SortKey>>)
+fn list_anew<M: SlotMap>(map: &M, order: &mut Order<M>)
 where
     M::Item: Sortable,
     M::FirstKey: Ord,
     requires none { entries_in order.old ≡ [] }
     requires fits { length (bag (M.shown map.now)) ≤ order.old.capacity }
     requires sound { IsSound M.ranks (bag (M.shown map.now)) }
-    ensures listed { IsListed ⟦<M as SortOrder>⟧.order M.Item.sort_key M.Item.SortKey.cmp
-        (M.shown map.now).slots (line order.new.blocks) }
+    ensures listed { ⟦<M as SortOrder>⟧.Lists (M.shown map.now).slots (line order.new.blocks) }
     ensures capacity { order.new.capacity ≡ order.old.capacity }
 {
     let slots = map.slots();
@@ -101,21 +98,15 @@ where
 }
 
 /// Lists the item of a slot in an order that lists the items of the slots before it.
-fn list_item<M: SlotMap>(
-    slots: &ItemSet<M::Item>,
-    slot: ItemIndex,
-    order: &mut Blocks<Entry<<M::Item as Sortable>::SortKey>>,
-)
+fn list_item<M: SlotMap>(slots: &ItemSet<M::Item>, slot: ItemIndex, order: &mut Order<M>)
 where
     M::Item: Sortable,
     M::FirstKey: Ord,
     requires live { IsLive slots.now.slots slot }
-    requires listed { IsListed ⟦<M as SortOrder>⟧.order M.Item.sort_key M.Item.SortKey.cmp
-        (take slot slots.now.slots) (line order.old.blocks) }
+    requires listed { ⟦<M as SortOrder>⟧.Lists (take slot slots.now.slots) (line order.old.blocks) }
     requires room { length (entries_in order.old) < order.old.capacity }
     requires sound { IsSound M.ranks (contents slots.now.slots) }
-    ensures listed { IsListed ⟦<M as SortOrder>⟧.order M.Item.sort_key M.Item.SortKey.cmp
-        (take (slot + 1) slots.now.slots) (line order.new.blocks) }
+    ensures listed { ⟦<M as SortOrder>⟧.Lists (take (slot + 1) slots.now.slots) (line order.new.blocks) }
     ensures capacity { order.new.capacity ≡ order.old.capacity }
 {
     let item = slots.item(slot);

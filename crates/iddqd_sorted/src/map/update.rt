@@ -8,6 +8,7 @@ ghost use Rattle.iddqd_sorted.specs.Keeping.{ComparesOnceIf, KeepsSortKey};
 ghost use Rattle.iddqd_sorted.specs.Keyed.{MapsOne, StoresOne};
 
 use super::Sorted;
+use super::settle::resettle_changed;
 use crate::item::{SortOrder, Sortable};
 use iddqd_store::{Costs, FindsBy, Meter, Query, SlotMap, StoresData};
 
@@ -57,7 +58,7 @@ where
         let before = self.map.slots().item(slot).sort_key();
         let d = f(self.map.slots().item(slot));
         self.map.store_at(slot, d);
-        Sorted::<M>::resettle_changed(&self.map, &mut self.order, slot, before, meter);
+        resettle_changed(&self.map, &mut self.order, slot, before, meter);
         true
     }
 }
