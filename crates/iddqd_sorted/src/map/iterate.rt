@@ -1,10 +1,9 @@
 //! Iterating over the items in their order.
 ghost use Rattle.std.specs.Prelude.{◌≡◌, ℕ, ◌+◌, ◌*◌, ◌^◌, ◌<◌, ◌≤◌, filter, length};
-ghost use Rattle.std.specs.Map.Iter.{ShowsInOrder, ShowsInReverse, deref};
 ghost use Rattle.std.specs.Ordering.{is_eq};
 ghost use Rattle.iddqd_sorted.specs.Items.{items};
 ghost use Rattle.iddqd_sorted.specs.Ordered.{IsAscending};
-ghost use Rattle.iddqd_order.specs.Walks.{MeetsFirst, MeetsLast};
+ghost use Rattle.iddqd_order.specs.Walks.{IsWalked};
 
 use super::Sorted;
 use crate::item::{SortOrder, Sortable};
@@ -22,10 +21,7 @@ where
     pub fn iter(&self) -> Iter<'_, M::Item>
         ensures gives { result ≡ items self.now }
         ensures ascending { IsAscending ⟦<M as SortOrder>⟧.order (items self.now) }
-        ensures runs { ShowsInOrder (deref {X = M.Item}) }
-        ensures runs_back { ShowsInReverse (deref {X = M.Item}) }
-        ensures meets_first { MeetsFirst M.Item }
-        ensures meets_last { MeetsLast M.Item }
+        ensures walked { IsWalked M.Item }
         ensures countable { length (items self.now) < 2 ^ 64 }
     {
         Iter::over(self.map.slots(), self.order.iter())
@@ -36,10 +32,7 @@ where
     /// Among fewer than `4 ^ r` items the call compares at most `6 * r + 38` sort keys. It allocates no memory.
     pub fn group(&self, sort_key: &<M::Item as Sortable>::SortKey) -> Iter<'_, M::Item>
         ensures gives { result ≡ filter (λ x. is_eq (M.Item.SortKey.cmp (M.Item.sort_key x) sort_key.now)) (items self.now) }
-        ensures runs { ShowsInOrder (deref {X = M.Item}) }
-        ensures runs_back { ShowsInReverse (deref {X = M.Item}) }
-        ensures meets_first { MeetsFirst M.Item }
-        ensures meets_last { MeetsLast M.Item }
+        ensures walked { IsWalked M.Item }
         ensures countable { length result < 2 ^ 64 }
     {
         self.group_counted(sort_key, &mut Meter::new())
@@ -53,10 +46,7 @@ where
         meter: &mut Meter,
     ) -> Iter<'_, M::Item>
         ensures gives { result ≡ filter (λ x. is_eq (M.Item.SortKey.cmp (M.Item.sort_key x) sort_key.now)) (items self.now) }
-        ensures runs { ShowsInOrder (deref {X = M.Item}) }
-        ensures runs_back { ShowsInReverse (deref {X = M.Item}) }
-        ensures meets_first { MeetsFirst M.Item }
-        ensures meets_last { MeetsLast M.Item }
+        ensures walked { IsWalked M.Item }
         ensures countable { length result < 2 ^ 64 }
         ensures asked { (r : ℕ) → length (items self.now) < 4 ^ r → meter.new ≤ meter.old + (6 * r + 38) }
     {

@@ -1,11 +1,10 @@
 //! Iterating over the items between two bounds of sort keys.
 ghost use Rattle.std.specs.Prelude.{◌≡◌, ℕ, ◌+◌, ◌*◌, ◌^◌, ◌<◌, ◌≤◌, not, filter, length};
-ghost use Rattle.std.specs.Map.Iter.{ShowsInOrder, ShowsInReverse, deref};
 ghost use Rattle.std.specs.Range.Bound.{bound_map};
 ghost use Rattle.iddqd_order.specs.Row.{position, IsPlace};
 ghost use Rattle.iddqd_sorted.specs.Items.{items, is_from, is_to, is_within};
 ghost use Rattle.iddqd_order.specs.Search.{IsStartOf};
-ghost use Rattle.iddqd_order.specs.Walks.{MeetsFirst, MeetsLast};
+ghost use Rattle.iddqd_order.specs.Walks.{IsWalked};
 
 use super::Sorted;
 use crate::item::Sortable;
@@ -29,10 +28,7 @@ where
     ) -> Iter<'_, M::Item>
         ensures gives { R.has_bounds range → result
             ≡ filter (is_within M.Item.sort_key M.Item.SortKey.cmp (R.start_bound range) (R.end_bound range)) (items self.now) }
-        ensures runs { ShowsInOrder (deref {X = M.Item}) }
-        ensures runs_back { ShowsInReverse (deref {X = M.Item}) }
-        ensures meets_first { MeetsFirst M.Item }
-        ensures meets_last { MeetsLast M.Item }
+        ensures walked { IsWalked M.Item }
         ensures countable { length result < 2 ^ 64 }
     {
         self.range_counted(range, &mut Meter::new())
@@ -47,10 +43,7 @@ where
     ) -> Iter<'_, M::Item>
         ensures gives { R.has_bounds range → result
             ≡ filter (is_within M.Item.sort_key M.Item.SortKey.cmp (R.start_bound range) (R.end_bound range)) (items self.now) }
-        ensures runs { ShowsInOrder (deref {X = M.Item}) }
-        ensures runs_back { ShowsInReverse (deref {X = M.Item}) }
-        ensures meets_first { MeetsFirst M.Item }
-        ensures meets_last { MeetsLast M.Item }
+        ensures walked { IsWalked M.Item }
         ensures countable { length result < 2 ^ 64 }
         ensures asked { (r : ℕ) → length (items self.now) < 4 ^ r → meter.new ≤ meter.old + (6 * r + 38) }
     {

@@ -1,15 +1,13 @@
 use Rattle.std.proofs.Common.{sym, ◌∙◌, ◌&&◌, length, ◌<◌, rules, arith}
-use Rattle.std.specs.Map.Iter.{deref}
 use Rattle.std.specs.Ordering.{is_ge, is_le, is_eq, is_gt}
 use Rattle.std.specs.Prelude.{not}
-use Rattle.std_collections.proofs.IterRuns.{shows_in_order, shows_in_reverse}
 use Rattle.iddqd_store.specs.Slots.{IsLive}
 use Rattle.iddqd_order.specs.Row.{line}
 use Rattle.iddqd_sorted.specs.Entries.{item_in}
 use Rattle.iddqd_sorted.proofs.Entries.{All-range, items-range}
 use Rattle.iddqd_order.proofs.FilterLemmas.{filter-between}
 use Rattle.iddqd_sorted.proofs.Sorting.{IsStartOf-same, not_le, filter-same, both_eq}
-use Rattle.iddqd_order.proofs.WalkLemmas.{meets_first, meets_last}
+use Rattle.iddqd_order.proofs.WalkLemmas.{is_walked}
 use Rattle.iddqd_sorted.proofs.map.Sorted.group_counted.Goals as goal
 
 pub over-requires : goal.over-requires
@@ -25,17 +23,8 @@ returns-clause-gives g c =
     ∙ sym (filter-between (λ x. is_ge (at x)) (λ x. is_le (at x)) _ _ _ from to)
     ∙ filter-same (λ x. is_ge (at x) && is_le (at x)) (λ x. is_eq (at x)) (λ x. both_eq (at x)) _)
 
-pub returns-clause-runs : goal.returns-clause-runs
-returns-clause-runs g c = shows_in_order deref
-
-pub returns-clause-runs_back : goal.returns-clause-runs_back
-returns-clause-runs_back g c = shows_in_reverse deref
-
-pub returns-clause-meets_first : goal.returns-clause-meets_first
-returns-clause-meets_first g c = meets_first
-
-pub returns-clause-meets_last : goal.returns-clause-meets_last
-returns-clause-meets_last g c = meets_last
+pub returns-clause-walked : goal.returns-clause-walked
+returns-clause-walked g c = is_walked
 
 pub returns-clause-countable : goal.returns-clause-countable
 returns-clause-countable g c =
