@@ -1,5 +1,5 @@
 -- What a contract sees of a hash map with an order. In the examples an item is a pair of its first key and its sort key.
-use Rattle.std.specs.Prelude.{◌≡◌, ℕ, ◌+◌, ◌*◌, ◌<◌, ◌≤◌, Bool, max, true, ◌&&◌, List, [], ◌∷◌, ◌++◌, Option, filter, length, min, refl, Result, IsErr, OnOk, OnErr}
+use Rattle.std.specs.Prelude.{◌≡◌, ℕ, ◌+◌, ◌*◌, ◌<◌, ◌≤◌, Bool, max, true, ◌&&◌, List, [], Option, length, min, refl, Result, IsErr, OnOk, OnErr}
 use Rattle.std.specs.Coded.{Coded, code_by, coded×, coded_ℕ, coded_list, coded_option}
 use Rattle.std.specs.Ordering.{then_cmp, on, is_lt, is_le, is_gt, is_ge}
 use Rattle.std.specs.declared.cmp.Ordering.{Ordering}
@@ -8,6 +8,7 @@ use Rattle.std.specs.declared.ops.Bound.TheVariants.{Included, Excluded, Unbound
 use Rattle.iddqd_store.specs.Bag.{Ranks, conflicts_of}
 use Rattle.iddqd_store.specs.Slots.{contents}
 use Rattle.iddqd_store.specs.Table.Limit.{most_room}
+pub use Rattle.iddqd_order.specs.Lists.{Filters, with_item}
 use Rattle.iddqd_order.specs.Row.{line}
 use Rattle.iddqd_sorted.specs.Entries.{items_in}
 use Rattle.iddqd_sorted.specs.declared.entry.Entry.{Entry}
@@ -55,11 +56,6 @@ abbrev pub most_grown : ℕ → ℕ → ℕ → ℕ
 most_grown capacity count wanted = max (capacity + min wanted (max (8 * count) 65536)) (max (2 * capacity) 4)
 
 module _ {T : Type 0} where
-  -- `with_item` lists the items that are lower than `x`, then `x`, and then those that are higher.
-  -- Example: For (2, 3), (1, 5) and (4, 3) it is (2, 3), (4, 3), (1, 5).
-  abbrev pub with_item : (T → T → Ordering) → List T → T → List T
-  with_item by xs x = filter (λ y. is_lt (by y x)) xs ++ x ∷ filter (λ y. is_gt (by y x)) xs
-
   module _ {K S : Type 0} where
     -- The map has the item besides those that it had, and they fit. The capacity grows only if the map was full, and then as it may
     -- for so many `wanted` (`most_grown`), which is 1 for an insert of one item. The builder stays.
@@ -125,10 +121,3 @@ pub record GrowsUnless {T K S : Type 0} (fits : Type 0) (old new : SortedValue T
   pub no_less_room : old.capacity ≤ new.capacity
   pub same_room : fits → new.capacity ≡ old.capacity
   pub same_builder : new.builder ≡ old.builder
-
--- For each test that tells what the closure returns at an item, where no call changes the closure `f`, `kept` lists the items that
--- pass.
--- Example: For a closure that tells whether the first key is odd, and (2, 3), (1, 5), it is (1, 5).
-abbrev pub Filters : {F T : Type 0} → (F → T → Bool → F → Type 0) → F → List T → List T → Type 0
-Filters {F} {T} step f xs kept =
-    (test : T → Bool) → ((x : T) (b : Bool) (g : F) → step f x b g → (g ≡ f) × (b ≡ test x)) → kept ≡ filter test xs
