@@ -1,5 +1,5 @@
 //! How many items there are and how many fit, and growing.
-ghost use Rattle.std.specs.Prelude.{[], ◌≡◌, ◌+◌, ◌*◌, ◌<◌, ◌≤◌, ◌==◌, length, max, min, IsErr, OnOk, OnErr};
+ghost use Rattle.std.specs.Prelude.{[], ◌≡◌, ◌+◌, ◌<◌, ◌≤◌, ◌==◌, length, max, min, IsErr, OnOk, OnErr};
 ghost use Rattle.iddqd_store.specs.Bag.{IsSound};
 ghost use Rattle.iddqd_store.specs.Table.Limit.{most_room};
 ghost use Rattle.iddqd_sorted.specs.Items.{items, most_grown, MakesRoom};

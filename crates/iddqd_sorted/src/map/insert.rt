@@ -1,5 +1,5 @@
 //! Inserting an item whose keys no other has.
-ghost use Rattle.std.specs.Prelude.{◌≡◌, ℕ, ◌+◌, ◌*◌, ◌^◌, ◌<◌, ◌≤◌, [], ◌∷◌, length, map, Some, None, if◌then◌else◌, is_ok, IsOk, OnOk, OnErr, IfOk, IfErr, IsPermutation};
+ghost use Rattle.std.specs.Prelude.{◌≡◌, ◌+◌, ◌<◌, ◌≤◌, [], ◌∷◌, length, map, Some, None, if◌then◌else◌, is_ok, IsOk, OnOk, OnErr, IfOk, IfErr, IsPermutation};
 ghost use Rattle.std.specs.List.{insert};
 ghost use Rattle.iddqd_store.specs.Bag.{conflicts_of};
 ghost use Rattle.iddqd_store.specs.Rank.{walks_within};
@@ -10,7 +10,7 @@ ghost use Rattle.iddqd_order.specs.Row.{position, IsPlace};
 ghost use Rattle.iddqd_sorted.specs.Inserts.{FindsTaken, TellsWhy};
 ghost use Rattle.iddqd_sorted.specs.Items.{items, bag, Gains};
 ghost use Rattle.iddqd_sorted.specs.Ordered.{IsAscending};
-ghost use Rattle.iddqd_order.specs.Search.{IsSplit};
+ghost use Rattle.iddqd_order.specs.Search.{ComparesWithin, IsSplit};
 
 use super::Sorted;
 use crate::entry::Entry;
@@ -63,7 +63,7 @@ where
         ensures handed_back { IfErr result (λ e. M.rejected_item e ≡ item) }
         ensures unchanged { OnErr result (self.new ≡ self.old) }
         ensures reason { IfErr result (λ e. TellsWhy M.ranks self.old item (M.rejected_flags e)) }
-        ensures asked { (r : ℕ) → length (items self.old) < 4 ^ r → meter.new ≤ meter.old + (3 * r + 19) }
+        ensures asked { ComparesWithin 3 19 (length (items self.old)) meter.old meter.new }
         ensures costs { PlacingCosts (M.hashes self.old.builder) (bag self.old) self.old.capacity
             (hashes_of (M.hashes self.old.builder) item) (map (λ _. if is_ok result then 1 else 0) M.ranks) costs.old costs.new }
     {
@@ -99,7 +99,7 @@ where
         ensures handed_back { IfErr result (λ x. x ≡ item) }
         ensures unchanged { OnErr result (self.new ≡ self.old) }
         ensures full { OnErr result (length (items self.old) ≡ self.old.capacity) }
-        ensures asked { (r : ℕ) → length (items self.old) < 4 ^ r → meter.new ≤ meter.old + (3 * r + 19) }
+        ensures asked { ComparesWithin 3 19 (length (items self.old)) meter.old meter.new }
         ensures probed { probed.new ≤ probed.old + walks_within (length (bag self.old))
             (map (λ _. if is_ok result then 1 else 0) M.ranks) }
     {

@@ -1,9 +1,10 @@
 //! Iterating over the items in their order.
-ghost use Rattle.std.specs.Prelude.{◌≡◌, ℕ, ◌+◌, ◌*◌, ◌^◌, ◌<◌, ◌≤◌, filter, length};
+ghost use Rattle.std.specs.Prelude.{◌≡◌, ◌^◌, ◌<◌, filter, length};
 ghost use Rattle.std.specs.Ordering.{is_eq};
 ghost use Rattle.iddqd_sorted.specs.Items.{items};
 ghost use Rattle.iddqd_sorted.specs.Ordered.{IsAscending};
 ghost use Rattle.iddqd_order.specs.Walks.{IsWalked};
+ghost use Rattle.iddqd_order.specs.Search.{ComparesWithin};
 
 use super::Sorted;
 use crate::item::{SortOrder, Sortable};
@@ -48,7 +49,7 @@ where
         ensures gives { result ≡ filter (λ x. is_eq (M.Item.SortKey.cmp (M.Item.sort_key x) sort_key.now)) (items self.now) }
         ensures walked { IsWalked M.Item }
         ensures countable { length result < 2 ^ 64 }
-        ensures asked { (r : ℕ) → length (items self.now) < 4 ^ r → meter.new ≤ meter.old + (6 * r + 38) }
+        ensures asked { ComparesWithin 6 38 (length (items self.now)) meter.old meter.new }
     {
         let from = self.lower_bound(sort_key, meter);
         let to = self.upper_bound(sort_key, meter);

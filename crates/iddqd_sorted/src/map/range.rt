@@ -1,9 +1,9 @@
 //! Iterating over the items between two bounds of sort keys.
-ghost use Rattle.std.specs.Prelude.{◌≡◌, ℕ, ◌+◌, ◌*◌, ◌^◌, ◌<◌, ◌≤◌, not, filter, length};
+ghost use Rattle.std.specs.Prelude.{◌≡◌, ◌^◌, ◌<◌, not, filter, length};
 ghost use Rattle.std.specs.Range.Bound.{bound_map};
 ghost use Rattle.iddqd_order.specs.Row.{position, IsPlace};
 ghost use Rattle.iddqd_sorted.specs.Items.{items, is_from, is_to, is_within};
-ghost use Rattle.iddqd_order.specs.Search.{IsStartOf};
+ghost use Rattle.iddqd_order.specs.Search.{ComparesWithin, IsStartOf};
 ghost use Rattle.iddqd_order.specs.Walks.{IsWalked};
 
 use super::Sorted;
@@ -45,7 +45,7 @@ where
             ≡ filter (is_within M.Item.sort_key M.Item.SortKey.cmp (R.start_bound range) (R.end_bound range)) (items self.now) }
         ensures walked { IsWalked M.Item }
         ensures countable { length result < 2 ^ 64 }
-        ensures asked { (r : ℕ) → length (items self.now) < 4 ^ r → meter.new ≤ meter.old + (6 * r + 38) }
+        ensures asked { ComparesWithin 6 38 (length (items self.now)) meter.old meter.new }
     {
         let from = self.range_start(range.start_bound(), meter);
         let to = self.range_end(range.end_bound(), meter);
@@ -57,7 +57,7 @@ where
         ensures place { IsPlace self.now.blocks result }
         ensures starts { IsStartOf (is_from M.Item.sort_key M.Item.SortKey.cmp (bound_map (λ k. k.now) low.entry)) (items self.now)
             (position self.now.blocks result) }
-        ensures asked { (r : ℕ) → length (items self.now) < 4 ^ r → meter.new ≤ meter.old + (3 * r + 19) }
+        ensures asked { ComparesWithin 3 19 (length (items self.now)) meter.old meter.new }
     {
         match low {
             Bound::Included(sort_key) => self.lower_bound(sort_key, meter),
@@ -71,7 +71,7 @@ where
         ensures place { IsPlace self.now.blocks result }
         ensures starts { IsStartOf (λ x. not (is_to M.Item.sort_key M.Item.SortKey.cmp (bound_map (λ k. k.now) high.entry) x)) (items self.now)
             (position self.now.blocks result) }
-        ensures asked { (r : ℕ) → length (items self.now) < 4 ^ r → meter.new ≤ meter.old + (3 * r + 19) }
+        ensures asked { ComparesWithin 3 19 (length (items self.now)) meter.old meter.new }
     {
         match high {
             Bound::Included(sort_key) => self.upper_bound(sort_key, meter),

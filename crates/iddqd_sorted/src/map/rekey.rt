@@ -1,10 +1,11 @@
 //! Replacing an item by another, whatever their keys are.
-ghost use Rattle.std.specs.Prelude.{[], ◌≡◌, ℕ, ◌+◌, ◌*◌, ◌^◌, ◌<◌, ◌≤◌, not, filter, length, map, Some, IfOk, IfErr, OnOk, OnErr};
+ghost use Rattle.std.specs.Prelude.{[], ◌≡◌, not, filter, length, map, Some, IfOk, IfErr, OnOk, OnErr};
 ghost use Rattle.iddqd_store.specs.Bag.{IsOnly, conflicts_of};
 ghost use Rattle.iddqd_store.specs.Rank.All.{hashes_of};
 ghost use Rattle.iddqd_sorted.specs.Items.{items, bag, with_item};
 ghost use Rattle.iddqd_sorted.specs.Keeping.{ComparesOnceIf, SharePlace};
 ghost use Rattle.iddqd_sorted.specs.Keyed.{RekeyingCosts, TellsWhyRefused, refused_item};
+ghost use Rattle.iddqd_order.specs.Search.{ComparesWithin};
 
 use super::Sorted;
 use super::settle::{place_of_slot, resettle};
@@ -53,7 +54,7 @@ where
         ensures unchanged { OnErr result (self.new ≡ self.old) }
         ensures reason { IfErr result (λ e. TellsWhyRefused M.ranks (λ y. Q.stands_for query (⟦<M as FindsBy<R>>⟧.key y))
             (items self.old) item e) }
-        ensures asked { (r : ℕ) → length (items self.old) < 4 ^ r → meter.new ≤ meter.old + (6 * r + 40) }
+        ensures asked { ComparesWithin 6 40 (length (items self.old)) meter.old meter.new }
         // If the sort key and the first key stay, one comparison is all.
         ensures asked_once { IfOk result (λ x. ComparesOnceIf
             (SharePlace ⟦<M as SortOrder>⟧.order x item) meter.old meter.new) }

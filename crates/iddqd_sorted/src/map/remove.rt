@@ -1,5 +1,5 @@
 //! Removing the item that a key finds, and that of a slot.
-ghost use Rattle.std.specs.Prelude.{◌≡◌, ℕ, ◌+◌, ◌*◌, ◌^◌, ◌<◌, ◌≤◌, [], ◌∷◌, not, filter, length, map, None, Some, IfNone, IsPermutation};
+ghost use Rattle.std.specs.Prelude.{◌≡◌, ◌+◌, ◌≤◌, [], ◌∷◌, not, filter, length, map, None, Some, IfNone, IsPermutation};
 ghost use Rattle.iddqd_store.specs.Bag.{IsOnly};
 ghost use Rattle.iddqd_store.specs.Map.{Loses};
 ghost use Rattle.iddqd_store.specs.Rank.{walks_within};
@@ -8,6 +8,7 @@ ghost use Rattle.iddqd_sorted.specs.Items.{items, bag};
 ghost use Rattle.iddqd_sorted.specs.Keyed.{RemovingCosts};
 ghost use Rattle.iddqd_sorted.specs.Ordered.{IsAscending};
 ghost use Rattle.iddqd_sorted.specs.Overwriting.{map_of};
+ghost use Rattle.iddqd_order.specs.Search.{ComparesWithin};
 
 use super::Sorted;
 use super::settle::place_of_slot;
@@ -37,7 +38,7 @@ where
         ensures capacity { self.new.capacity ≡ self.old.capacity }
         ensures builder { self.new.builder ≡ self.old.builder }
         ensures absent { IfNone result (self.new ≡ self.old) }
-        ensures asked { (r : ℕ) → length (items self.old) < 4 ^ r → meter.new ≤ meter.old + (3 * r + 19) }
+        ensures asked { ComparesWithin 3 19 (length (items self.old)) meter.old meter.new }
         ensures costs { RemovingCosts (⟦<M as FindsBy<R>>⟧.key_hash self.old.builder) (bag self.old) self.old.capacity
             (M.hash_of self.old.builder (Q.hash_input query)) (map (λ _. 1) M.ranks) result costs.old costs.new }
     {
@@ -65,7 +66,7 @@ where
         ensures loses { Loses (map_of self.old) (result ∷ []) (map_of self.new) }
         ensures left { IsPermutation (items self.old) (result ∷ items self.new) }
         ensures ascending { IsAscending ⟦<M as SortOrder>⟧.order (items self.new) }
-        ensures asked { (r : ℕ) → length (bag self.old) < 4 ^ r → meter.new ≤ meter.old + (3 * r + 19) }
+        ensures asked { ComparesWithin 3 19 (length (bag self.old)) meter.old meter.new }
         ensures probed { probed.new ≤ probed.old + walks_within (length (bag self.old)) (map (λ _. 1) M.ranks) }
     {
         let place = place_of_slot(&self.map, &self.order, slot, meter);

@@ -1,5 +1,5 @@
 //! Putting an item with the same keys and maybe another sort key in the place of one.
-ghost use Rattle.std.specs.Prelude.{◌≡◌, ℕ, ◌+◌, ◌*◌, ◌^◌, ◌<◌, ◌≤◌, true, false, length, Some, IfOk, IfErr, OnOk, OnErr, slice_index_or};
+ghost use Rattle.std.specs.Prelude.{◌≡◌, ℕ, ◌+◌, ◌<◌, true, false, length, Some, IfOk, IfErr, OnOk, OnErr, slice_index_or};
 ghost use Rattle.std.specs.List.{list_any, remove};
 ghost use Rattle.std.specs.Ordering.{is_eq};
 ghost use Rattle.iddqd_store.specs.Bag.{IsOnly, agrees};
@@ -8,6 +8,7 @@ ghost use Rattle.iddqd_store.specs.Slots.{get, IsLive};
 ghost use Rattle.iddqd_sorted.specs.Inserts.{Replaces};
 ghost use Rattle.iddqd_sorted.specs.Items.{items, bag, with_item};
 ghost use Rattle.iddqd_sorted.specs.Keeping.{ComparesOnceIf, SharePlace};
+ghost use Rattle.iddqd_order.specs.Search.{ComparesWithin};
 
 use super::Sorted;
 use super::settle::{place_of_slot, resettle};
@@ -53,7 +54,7 @@ where
         ensures handed_back { IfErr result (λ x. x ≡ item) }
         ensures unchanged { OnErr result (self.new ≡ self.old) }
         ensures reason { OnErr result (list_any (agrees M.ranks item) (items self.old) ≡ false) }
-        ensures asked { (r : ℕ) → length (items self.old) < 4 ^ r → meter.new ≤ meter.old + (6 * r + 40) }
+        ensures asked { ComparesWithin 6 40 (length (items self.old)) meter.old meter.new }
         // If the sort key stays, one comparison is all.
         ensures asked_once { IfOk result (λ x. ComparesOnceIf
             (SharePlace ⟦<M as SortOrder>⟧.order x item) meter.old meter.new) }
@@ -76,7 +77,7 @@ where
             (remove (items self.old) i) item) }
         ensures capacity { self.new.capacity ≡ self.old.capacity }
         ensures builder { self.new.builder ≡ self.old.builder }
-        ensures asked { (r : ℕ) → length (items self.old) < 4 ^ r → meter.new ≤ meter.old + (6 * r + 40) }
+        ensures asked { ComparesWithin 6 40 (length (items self.old)) meter.old meter.new }
         ensures asked_once { ComparesOnceIf
             (SharePlace ⟦<M as SortOrder>⟧.order result item) meter.old meter.new }
     {
@@ -134,7 +135,7 @@ where
             (remove (items self.old) i) item) }
         ensures capacity { self.new.capacity ≡ self.old.capacity }
         ensures builder { self.new.builder ≡ self.old.builder }
-        ensures asked { (r : ℕ) → length (items self.old) < 4 ^ r → meter.new ≤ meter.old + (6 * r + 37) }
+        ensures asked { ComparesWithin 6 37 (length (items self.old)) meter.old meter.new }
     {
         let place = place_of_slot(&self.map, &self.order, slot, meter);
         let gone = self.map.replace_at(slot, item);

@@ -1,9 +1,9 @@
 //! Entries that come to their places in the order.
-ghost use Rattle.std.specs.Prelude.{◌≡◌, ℕ, ◌+◌, ◌*◌, ◌^◌, ◌<◌, ◌≤◌, [], All, true, length, Some, None, slice_index_or, slice_set};
+ghost use Rattle.std.specs.Prelude.{◌≡◌, ℕ, ◌+◌, ◌<◌, ◌≤◌, [], All, true, length, Some, None, slice_index_or, slice_set};
 ghost use Rattle.std.specs.List.{remove};
 ghost use Rattle.std.specs.declared.cmp.Ordering.TheVariants.{Less, Equal, Greater};
 ghost use Rattle.iddqd_order.specs.Row.{entries_in, line, position, HasEntry};
-ghost use Rattle.iddqd_order.specs.Search.{IsSearchable, IsSplit};
+ghost use Rattle.iddqd_order.specs.Search.{ComparesWithin, IsSearchable, IsSplit};
 ghost use Rattle.iddqd_store.specs.Bag.{conflicts_of};
 ghost use Rattle.iddqd_store.specs.Slots.{contents, get, IsLive};
 ghost use Rattle.iddqd_sorted.specs.Keeping.{ComparesOnceIf};
@@ -33,7 +33,7 @@ where
     ensures slot { (d : Entry M.Item.SortKey) → (slice_index_or (line order.now.blocks) (position order.now.blocks result) d).slot ≡ slot }
     ensures within { position order.now.blocks result < length (line order.now.blocks) }
     ensures fits { length (line order.now.blocks) ≤ order.now.capacity }
-    ensures asked { (r : ℕ) → length (line order.now.blocks) < 4 ^ r → meter.new ≤ meter.old + (3 * r + 16) }
+    ensures asked { ComparesWithin 3 16 (length (line order.now.blocks)) meter.old meter.new }
 {
     let item = map.slots().item(slot);
     let compare: ByItem<'_, M> = ByItem {
@@ -66,7 +66,7 @@ where
     ensures slot { (d : Entry M.Item.SortKey) → (slice_index_or (line order.now.blocks) (position order.now.blocks result) d).slot ≡ slot }
     ensures within { position order.now.blocks result < length (line order.now.blocks) }
     ensures fits { length (line order.now.blocks) ≤ order.now.capacity }
-    ensures asked { (r : ℕ) → length (line order.now.blocks) < 4 ^ r → meter.new ≤ meter.old + (3 * r + 16) }
+    ensures asked { ComparesWithin 3 16 (length (line order.now.blocks)) meter.old meter.new }
 {
     let item = map.slots().item(slot);
     let compare: ByItem<'_, M> = ByItem {
@@ -101,7 +101,7 @@ where
     ensures settles { Resettles ⟦<M as SortOrder>⟧.order M.Item.sort_key M.Item.SortKey.cmp
         (M.shown map.now).slots slot (line order.old.blocks) (line order.new.blocks) }
     ensures capacity { order.new.capacity ≡ order.old.capacity }
-    ensures asked { (r : ℕ) → length (line order.old.blocks) < 4 ^ r → meter.new ≤ meter.old + (6 * r + 38) }
+    ensures asked { ComparesWithin 6 38 (length (line order.old.blocks)) meter.old meter.new }
     ensures asked_once { (x : M.Item) → get (M.shown map.now).slots slot ≡ Some x
         → ComparesOnceIf (M.Item.SortKey.cmp before (M.Item.sort_key x) ≡ Equal) meter.old meter.new }
 {
@@ -130,7 +130,7 @@ where
     ensures settles { Settles ⟦<M as SortOrder>⟧.order M.Item.sort_key M.Item.SortKey.cmp
         (M.shown map.now).slots slot (line order.old.blocks) (line order.new.blocks) }
     ensures capacity { order.new.capacity ≡ order.old.capacity }
-    ensures asked { (r : ℕ) → length (line order.old.blocks) < 4 ^ r → meter.new ≤ meter.old + (3 * r + 19) }
+    ensures asked { ComparesWithin 3 19 (length (line order.old.blocks)) meter.old meter.new }
 {
     let item = map.slots().item(slot);
     let sort_key = item.sort_key();
@@ -168,7 +168,7 @@ where
     ensures settles { Settles ⟦<M as SortOrder>⟧.order M.Item.sort_key M.Item.SortKey.cmp
         (M.shown map.now).slots slot (remove (line order.old.blocks) (position order.old.blocks place)) (line order.new.blocks) }
     ensures capacity { order.new.capacity ≡ order.old.capacity }
-    ensures asked { (r : ℕ) → length (line order.old.blocks) < 4 ^ r → meter.new ≤ meter.old + (3 * r + 21) }
+    ensures asked { ComparesWithin 3 21 (length (line order.old.blocks)) meter.old meter.new }
 {
     let item = map.slots().item(slot);
     let sort_key = item.sort_key();

@@ -1,11 +1,12 @@
 //! Updating an item by a closure, which is called with the item and returns its new data.
-ghost use Rattle.std.specs.Prelude.{◌≡◌, ℕ, ◌+◌, ◌*◌, ◌^◌, ◌<◌, ◌≤◌, true, false, length, Some};
+ghost use Rattle.std.specs.Prelude.{◌≡◌, true, false, length, Some};
 ghost use Rattle.std.specs.Fn.{FnOnceReturnsAt, FnOnceTakesAt};
 ghost use Rattle.std.specs.List.{list_any};
 ghost use Rattle.iddqd_store.specs.Bag.{IsOnly};
 ghost use Rattle.iddqd_sorted.specs.Items.{items};
 ghost use Rattle.iddqd_sorted.specs.Keeping.{ComparesOnceIf, KeepsSortKey};
 ghost use Rattle.iddqd_sorted.specs.Keyed.{MapsOne, StoresOne};
+ghost use Rattle.iddqd_order.specs.Search.{ComparesWithin};
 
 use super::Sorted;
 use super::settle::resettle_changed;
@@ -47,7 +48,7 @@ where
         ensures absent { result ≡ false → self.new ≡ self.old }
         ensures capacity { self.new.capacity ≡ self.old.capacity }
         ensures builder { self.new.builder ≡ self.old.builder }
-        ensures asked { (r : ℕ) → length (items self.old) < 4 ^ r → meter.new ≤ meter.old + (6 * r + 40) }
+        ensures asked { ComparesWithin 6 40 (length (items self.old)) meter.old meter.new }
         // If the sort key stays, one comparison is all.
         ensures asked_once { ComparesOnceIf (KeepsSortKey (FnOnceReturnsAt F.FnOnce f) ⟦<M as StoresData>⟧.put M.Item.sort_key M.Item.SortKey.cmp
             (λ y. Q.stands_for query (⟦<M as FindsBy<R>>⟧.key y)) (items self.old)) meter.old meter.new }
