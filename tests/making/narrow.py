@@ -65,7 +65,7 @@ PHRASED = [
     ("(an equal key) of the same rank", r"\1"), ("for each rank a table", "a table"), ("in both keys", "in the key"),
     (r"(\w),? rank by rank,? up to the first that differs", r"\1"), (r"each key of (the \w+ item|the item|an item|a removed item)", r"the key of \1"),
     ("each key of (them|those|these)", r"the key of each of \1"), ("each key of it", "its key"), ("says of each key whether", "says whether"),
-    ("the query and the other key of the item,", "the query,"), ("which (?:of its keys|keys of the item|keys) are taken", "whether the key is taken"),
+    ("the query and the other key of the item,", "the query,"), ("once, hashes each other key of the item once,", "once,"), ("which (?:of its keys|keys of the item|keys) are taken", "whether the key is taken"),
     ("the searches by its keys", "the search by its key"), ("by each of its keys", "by its key"), ("searches by all keys", "a search"),
     ("names the lowest rank at which its key is not", "says that its key is not"),
     # Of a key that is one the verb is another.

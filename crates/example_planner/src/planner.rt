@@ -71,7 +71,7 @@ pub fn next_due(steps: &Plan, time: u64) -> Option<&Step>
 pub fn between(steps: &Plan, from: u64, before: u64) -> Iter<'_, Step>
     ensures { result ≡ filter (λ s. nat_le from s.due && nat_lt s.due before) (items steps.now) }
 {
-    steps.between(&from, &before)
+    steps.range(from..before)
 }
 
 /// Removes the step with this number, and returns it, if there is one.

@@ -1,10 +1,11 @@
 -- What a contract sees of a map in the order of its keys. In the examples an item is a number, which is its key.
-use Rattle.std.specs.Prelude.{◌≡◌, ℕ, ◌+◌, ◌*◌, ◌<◌, ◌≤◌, max, Bool, true, false, ◌&&◌, List, ◌∷◌, ◌++◌, filter, length, Result, OnOk, OnErr}
+use Rattle.std.specs.Prelude.{◌≡◌, ℕ, ◌+◌, ◌*◌, ◌<◌, ◌≤◌, max, Bool, true, false, ◌&&◌, List, length, Result, OnOk, OnErr}
 use Rattle.std.specs.List.{list_any}
 use Rattle.std.specs.Ordering.{is_lt, is_eq, is_gt, is_le, is_ge}
 use Rattle.std.specs.declared.cmp.Ordering.{Ordering}
 use Rattle.std.specs.declared.ops.Bound.{Bound}
 use Rattle.std.specs.declared.ops.Bound.TheVariants.{Included, Excluded, Unbounded}
+use Rattle.iddqd_order.specs.Lists.{with_item as item_among}
 use Rattle.iddqd_order.specs.Row.{BlocksValue, line}
 use Rattle.iddqd_ord.specs.declared.item.IdOrdItem as item
 
@@ -44,7 +45,7 @@ module _ {T Key : Type 0} (of : item.Ghosts T Key) where
     -- `with_item` lists the items with lower keys than `x`, then `x`, and then those with higher keys.
     -- Example: For 3, 5, 7 and 4 it is 3, 4, 5, 7. An item 5 takes the place of the one that has its key.
     abbrev pub with_item : List T → T → List T
-    with_item xs x = filter (λ y. is_lt (cmp (of.key y) (of.key x))) xs ++ x ∷ filter (λ y. is_gt (cmp (of.key y) (of.key x))) xs
+    with_item xs x = item_among (λ y z. cmp (of.key y) (of.key z)) xs x
 
     -- The map has the item besides all that it had, and they fit. The capacity grows only if the map was full, and then to no more
     -- than twice what it was, or 4.

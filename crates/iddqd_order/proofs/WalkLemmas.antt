@@ -4,7 +4,7 @@ use Rattle.std.specs.Option.{option_map}
 use Rattle.std.proofs.lemmas.List.{get_or-reverse, length-reverse}
 use Rattle.std.specs.Map.Iter.{deref}
 use Rattle.std_collections.proofs.IterRuns.{shows_in_order, shows_in_reverse}
-use Rattle.iddqd_order.specs.Walks.{MeetsFirst, MeetsLast}
+use Rattle.iddqd_order.specs.Walks.{IsWalked, MeetsFirst, MeetsLast}
 
 module _ {A X : Type 0} (v : A → X) where
   shown : (o : Option A) (a : A) (y : X) → option_map (λ z. z) o ≡ Some a → option_map v o ≡ Some y → v a ≡ y
@@ -40,3 +40,6 @@ module _ {X : Type 0} where
       let read = rw turned at (shows.2 (length p.from - 1 - k) d (omega (arith, here)) (omega (arith, turned, p.long, lt))) in
       shown deref (p.at k) (get_or p.items k a) (get_or p.from (length p.from - 1 - k) d) (p.reads k a (omega (arith, p.long, lt))) read ∙ sym (get_or-reverse p.from k d here) in
       front_of deref p.items (reverse p.from) n (omega (arith, long, p.long, shows.0)) (omega (arith, p.long, most)) (λ less. omega (arith, long, p.long, shows.1 (whole (omega (arith, p.long, less))))) each
+
+  pub is_walked : IsWalked X
+  is_walked = record { runs = shows_in_order deref; runs_back = shows_in_reverse deref; meets_first = meets_first; meets_last = meets_last }

@@ -160,11 +160,6 @@ IsStartOf-same p q same xs i cut = record {
   after = λ j d le lt. sym (same (get_or xs j d)) ∙ cut.after j d le lt;
 }
 
-pub not_lt : (o : Ordering) → is_ge o ≡ not (is_lt o)
-not_lt Less = refl
-not_lt Equal = refl
-not_lt Greater = refl
-
 pub not_le : (o : Ordering) → is_gt o ≡ not (is_le o)
 not_le Less = refl
 not_le Equal = refl

@@ -1,11 +1,26 @@
--- What the error of an insert says.
-use Rattle.std.specs.Prelude.{◌≡◌, Bool, not, List, filter}
+-- What searches by the keys of an item find, and what the error of an insert says.
+use Rattle.std.specs.Prelude.{◌≡◌, ◌≢◌, Bool, not, is_some, List, [], filter, map, ℕ}
 use Rattle.std.specs.declared.cmp.Ordering.{Ordering}
-use Rattle.iddqd_store.specs.Bag.{Ranks, agrees, tests_of}
+use Rattle.iddqd_store.specs.Bag.{Ranks, agrees, conflicting, conflicts_of, tests_of}
+use Rattle.iddqd_store.specs.Rank.{FoundByHash}
+use Rattle.iddqd_store.specs.Rank.All.{AreHashed, HaveHashes, hashes_of}
 use Rattle.iddqd_store.specs.SlotMap.{AreAny, NoneTrue}
-use Rattle.iddqd_sorted.specs.Items.{SortedValue, items, with_item, IsFullFor}
+use Rattle.iddqd_store.specs.Slots.Found.{StandAt, each_once}
+use Rattle.iddqd_sorted.specs.Items.{SortedValue, bag, items, with_item, IsFullFor}
 
 module _ {T K S : Type 0} where
+  -- Searches by the keys of `x` found these slots. At least one key is taken: the slots are those of the items that conflict with
+  -- `x`, and the hashes are those of the keys.
+  -- Example: In a map of (2, 3) the search by the first key of (2, 7) finds the slot of (2, 3).
+  pub record FindsTaken (ranks : Ranks T) (rank_hashes : List (T → ℕ)) (m : SortedValue T K S) (x : T) (found : List FoundByHash) : Type 0 where
+    pub taken : AreAny (map (λ at. is_some at.slot) found) (tests_of ranks x) (items m)
+    pub some : NoneTrue (map (λ at. is_some at.slot) found) → ⊥
+    pub conflict : conflicts_of ranks (items m) x ≢ []
+    pub stand : StandAt m.slots (each_once (map (λ at. at.slot) found)) (conflicting ranks (bag m) x)
+    pub same_conflicts : conflicting ranks (bag m) x ≡ conflicting ranks (items m) x
+    pub hashes : HaveHashes (hashes_of rank_hashes x) found
+    pub hashed : AreHashed rank_hashes m.slots found
+
   -- The error says of each key of `x` whether an item of the map has it. If none is taken, the map is full.
   -- Example: In a map of (2, 3) the first key of (2, 7) is taken.
   pub record TellsWhy (ranks : Ranks T) (m : SortedValue T K S) (x : T) (flags : List Bool) : Type 0 where

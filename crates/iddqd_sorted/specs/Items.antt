@@ -1,5 +1,5 @@
 -- What a contract sees of a hash map with an order. In the examples an item is a pair of its first key and its sort key.
-use Rattle.std.specs.Prelude.{◌≡◌, ℕ, ◌+◌, ◌*◌, ◌<◌, ◌≤◌, Bool, max, true, ◌&&◌, List, [], ◌∷◌, ◌++◌, Option, filter, length, min, refl, Result, IsErr, OnOk, OnErr}
+use Rattle.std.specs.Prelude.{◌≡◌, ℕ, ◌+◌, ◌*◌, ◌<◌, ◌≤◌, Bool, max, true, ◌&&◌, List, [], Option, length, min, refl, Result, IsErr, OnOk, OnErr}
 use Rattle.std.specs.Coded.{Coded, code_by, coded×, coded_ℕ, coded_list, coded_option}
 use Rattle.std.specs.Ordering.{then_cmp, on, is_lt, is_le, is_gt, is_ge}
 use Rattle.std.specs.declared.cmp.Ordering.{Ordering}
@@ -8,6 +8,7 @@ use Rattle.std.specs.declared.ops.Bound.TheVariants.{Included, Excluded, Unbound
 use Rattle.iddqd_store.specs.Bag.{Ranks, conflicts_of}
 use Rattle.iddqd_store.specs.Slots.{contents}
 use Rattle.iddqd_store.specs.Table.Limit.{most_room}
+pub use Rattle.iddqd_order.specs.Lists.{Filters, with_item}
 use Rattle.iddqd_order.specs.Row.{line}
 use Rattle.iddqd_sorted.specs.Entries.{items_in}
 use Rattle.iddqd_sorted.specs.declared.entry.Entry.{Entry}
@@ -55,11 +56,6 @@ abbrev pub most_grown : ℕ → ℕ → ℕ → ℕ
 most_grown capacity count wanted = max (capacity + min wanted (max (8 * count) 65536)) (max (2 * capacity) 4)
 
 module _ {T : Type 0} where
-  -- `with_item` lists the items that are lower than `x`, then `x`, and then those that are higher.
-  -- Example: For (2, 3), (1, 5) and (4, 3) it is (2, 3), (4, 3), (1, 5).
-  abbrev pub with_item : (T → T → Ordering) → List T → T → List T
-  with_item by xs x = filter (λ y. is_lt (by y x)) xs ++ x ∷ filter (λ y. is_gt (by y x)) xs
-
   module _ {K S : Type 0} where
     -- The map has the item besides those that it had, and they fit. The capacity grows only if the map was full, and then as it may
     -- for so many `wanted` (`most_grown`), which is 1 for an insert of one item. The builder stays.
@@ -94,10 +90,10 @@ module _ {T K : Type 0} (sort : T → K) (cmp : K → K → Ordering) where
   is_to (Excluded k) x = is_lt (cmp (sort x) k)
   is_to Unbounded x = true
 
-  -- `within` tells whether the sort key of an item is between two bounds.
+  -- `is_within` tells whether the sort key of an item is between two bounds.
   -- Example: Between `Included 3` and `Excluded 5` are 3 and 4.
-  abbrev pub within : Bound K → Bound K → T → Bool
-  within low high x = is_from low x && is_to high x
+  abbrev pub is_within : Bound K → Bound K → T → Bool
+  is_within low high x = is_from low x && is_to high x
 
 -- `most_extended` is the highest capacity of a map that was extended, if with what came there would be so many items at most: twice
 -- what it was, or room for nine times as many items, or for 65,536 more.
@@ -125,10 +121,3 @@ pub record GrowsUnless {T K S : Type 0} (fits : Type 0) (old new : SortedValue T
   pub no_less_room : old.capacity ≤ new.capacity
   pub same_room : fits → new.capacity ≡ old.capacity
   pub same_builder : new.builder ≡ old.builder
-
--- For each test that tells what the closure returns at an item, where no call changes the closure `f`, `kept` lists the items that
--- pass.
--- Example: For a closure that tells whether the first key is odd, and (2, 3), (1, 5), it is (1, 5).
-abbrev pub Filters : {F T : Type 0} → (F → T → Bool → F → Type 0) → F → List T → List T → Type 0
-Filters {F} {T} step f xs kept =
-    (test : T → Bool) → ((x : T) (b : Bool) (g : F) → step f x b g → (g ≡ f) × (b ≡ test x)) → kept ≡ filter test xs

@@ -1,7 +1,9 @@
 //! An entry of the order.
 ghost use Rattle.std.specs.Prelude.{◌≡◌, ⊤};
 
-use iddqd_store::ItemIndex;
+use crate::item::Sortable;
+use iddqd_order::Blocks;
+use iddqd_store::{ItemIndex, SlotMap};
 use std::alloc::AllocError;
 
 /// An item in the order: its sort key, and the slot in which it is. The copy of the sort key saves a search from reading the
@@ -22,3 +24,6 @@ impl<K: Copy> Clone for Entry<K> {
         Ok(*self)
     }
 }
+
+/// The order of a map's items: an entry for each slot that has one.
+pub(crate) type Order<M> = Blocks<Entry<<<M as SlotMap>::Item as Sortable>::SortKey>>;

@@ -12,7 +12,7 @@ mod widths;
 
 pub use error::ExtendUniqueError;
 pub use into_iter::IntoIter;
-pub use item::Sortable;
+pub use item::{SortOrder, Sortable};
 pub use iter::Iter;
 pub use map::Sorted;
 pub use widths::one_key::IdHashOrdMap;

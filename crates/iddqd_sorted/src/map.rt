@@ -1,7 +1,6 @@
 //! The map, its fields and its invariant.
-use crate::entry::Entry;
+use crate::entry::Order;
 use crate::item::Sortable;
-use iddqd_order::Blocks;
 use iddqd_store::SlotMap;
 use std::marker::Model;
 
@@ -42,7 +41,7 @@ where
     M::FirstKey: Ord,
 {
     map: M,
-    order: Blocks<Entry<<M::Item as Sortable>::SortKey>>,
+    order: Order<M>,
 }
 
 impl<M: SlotMap> Model for Sorted<M>

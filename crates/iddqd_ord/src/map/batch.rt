@@ -1,7 +1,7 @@
 //! The numbers of the items of a list, in the order of the keys of these items.
-ghost use Rattle.std.specs.Prelude.{◌≡◌, ◌+◌, ◌*◌, ◌^◌, ◌<◌, ◌≤◌, ℕ, true, [], length, slice_get, IfOk, IfErr, OnOk};
+ghost use Rattle.std.specs.Prelude.{◌≡◌, ◌<◌, true, [], length, slice_get, IfOk, IfErr, OnOk};
 ghost use Rattle.std.specs.List.{insert, list_any};
-ghost use Rattle.iddqd_order.specs.Search.{order_at, IsSplit};
+ghost use Rattle.iddqd_order.specs.Search.{ComparesWithin, IsSplit, order_at};
 ghost use Rattle.iddqd_order.specs.Row.{entries_in, position, IsPlace};
 ghost use Rattle.iddqd_ord.specs.Batches.{IsOrderOf};
 ghost use Rattle.iddqd_ord.specs.Items.{key_comparison, has_key_of};
@@ -43,7 +43,7 @@ pub(super) fn place_in<T: IdOrdItem>(
     ensures place { IfErr result (IsPlace numbers.now.blocks) }
     ensures gap { IfErr result (λ p. IsSplit (key_comparison T.IdOrdItem T.Key.cmp item.now)
         (with_items T.IdOrdItem T.Key.cmp [] list.now) (position numbers.now.blocks p) 0) }
-    ensures asked { (r : ℕ) → length list.now < 4 ^ r → meter.new ≤ meter.old + (3 * r + 19) }
+    ensures asked { ComparesWithin 3 19 (length list.now) meter.old meter.new }
 {
     numbers.search(&ByNumber { list, item }, meter)
 }

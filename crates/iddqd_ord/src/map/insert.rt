@@ -1,8 +1,8 @@
 //! Inserting an item whose key no other has.
-ghost use Rattle.std.specs.Prelude.{◌≡◌, ◌^◌, ◌+◌, ◌*◌, ◌<◌, ◌≤◌, ℕ, false, length, Some, slice_get, IsOk, IfOk, OnOk, OnErr, IfErr};
+ghost use Rattle.std.specs.Prelude.{◌≡◌, ◌<◌, false, length, Some, slice_get, IsOk, IfOk, OnOk, OnErr, IfErr};
 ghost use Rattle.std.specs.List.{list_any};
 ghost use Rattle.iddqd_order.specs.Row.{position, HasEntry, IsPlace};
-ghost use Rattle.iddqd_order.specs.Search.{IsSplit};
+ghost use Rattle.iddqd_order.specs.Search.{ComparesWithin, IsSplit};
 ghost use Rattle.iddqd_ord.specs.Items.{items, key_comparison, has_key_of, Gains};
 ghost use Rattle.iddqd_ord.specs.Inserts.{TellsWhy};
 ghost use Rattle.iddqd_ord.specs.Ordered.{IsAscending};
@@ -49,7 +49,7 @@ impl<T: IdOrdItem> IdOrdMap<T> {
         ensures handed_back { IfErr result (λ e. e.item ≡ item) }
         ensures unchanged { OnErr result (self.new ≡ self.old) }
         ensures reason { IfErr result (λ e. TellsWhy T.IdOrdItem T.Key.cmp self.old item e) }
-        ensures asked { (r : ℕ) → length (items self.old) < 4 ^ r → meter.new ≤ meter.old + (3 * r + 19) }
+        ensures asked { ComparesWithin 3 19 (length (items self.old)) meter.old meter.new }
     {
         match self.place_for(item.key(), meter) {
             Ok(_) => Err(Rejected { item, taken: true }),

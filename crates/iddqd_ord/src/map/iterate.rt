@@ -1,9 +1,9 @@
 //! Iterating over the items in the order of their keys.
 ghost use Rattle.std.specs.Prelude.{◌≡◌, ◌<◌, ◌^◌, filter, length};
-ghost use Rattle.std.specs.Map.Iter.{ShowsInOrder, ShowsInReverse, deref};
+ghost use Rattle.std.specs.Map.Iter.{ShowsInOrder, deref};
 ghost use Rattle.iddqd_ord.specs.Items.{items, is_within};
 ghost use Rattle.iddqd_ord.specs.Ordered.{IsAscending};
-ghost use Rattle.iddqd_order.specs.Walks.{MeetsFirst, MeetsLast};
+ghost use Rattle.iddqd_order.specs.Walks.{IsWalked};
 
 use super::IdOrdMap;
 use crate::item::IdOrdItem;
@@ -20,10 +20,7 @@ impl<T: IdOrdItem> IdOrdMap<T> {
     pub fn iter(&self) -> Iter<'_, T>
         ensures gives { result ≡ items self.now }
         ensures ascending { IsAscending T.Key.cmp T.key (items self.now) }
-        ensures runs { ShowsInOrder (deref {X = T}) }
-        ensures runs_back { ShowsInReverse (deref {X = T}) }
-        ensures meets_first { MeetsFirst T }
-        ensures meets_last { MeetsLast T }
+        ensures walked { IsWalked T }
         ensures countable { length (items self.now) < 2 ^ 64 }
     {
         self.items.iter()
@@ -41,10 +38,7 @@ impl<T: IdOrdItem> IdOrdMap<T> {
     pub fn range<Q: OrdSeek<T::Key>, R: OrdRange<Q>>(&self, range: R) -> Iter<'_, T>
         ensures gives { R.has_bounds range → result
             ≡ filter (is_within T.IdOrdItem Q.side (R.start_bound range) (R.end_bound range)) (items self.now) }
-        ensures runs { ShowsInOrder (deref {X = T}) }
-        ensures runs_back { ShowsInReverse (deref {X = T}) }
-        ensures meets_first { MeetsFirst T }
-        ensures meets_last { MeetsLast T }
+        ensures walked { IsWalked T }
         ensures countable { length result < 2 ^ 64 }
     {
         let next = self.range_start(range.start_bound(), &mut Meter::new());

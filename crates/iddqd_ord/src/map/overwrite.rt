@@ -1,8 +1,9 @@
 //! Inserting an item in place of the one that has its key.
-ghost use Rattle.std.specs.Prelude.{◌≡◌, ◌≢◌, ◌+◌, ◌*◌, ◌^◌, ◌<◌, ◌≤◌, ℕ, [], length, IsOk, IfOk, IfErr, OnOk, OnErr};
+ghost use Rattle.std.specs.Prelude.{◌≡◌, ◌≢◌, ◌<◌, [], length, IsOk, IfOk, IfErr, OnOk, OnErr};
 ghost use Rattle.iddqd_store.specs.Bag.{IsOnly};
 ghost use Rattle.iddqd_ord.specs.Items.{items, has_key_of, IsFullFor};
 ghost use Rattle.iddqd_ord.specs.Inserts.{Overwrites};
+ghost use Rattle.iddqd_order.specs.Search.{ComparesWithin};
 
 use super::IdOrdMap;
 use crate::item::IdOrdItem;
@@ -42,7 +43,7 @@ impl<T: IdOrdItem> IdOrdMap<T> {
         ensures handed_back { IfErr result (λ e. e.value ≡ item) }
         ensures unchanged { OnErr result (self.new ≡ self.old) }
         ensures reason { OnErr result (IsFullFor T.IdOrdItem T.Key.cmp self.old item) }
-        ensures asked { (r : ℕ) → length (items self.old) < 4 ^ r → meter.new ≤ meter.old + (3 * r + 19) }
+        ensures asked { ComparesWithin 3 19 (length (items self.old)) meter.old meter.new }
     {
         match self.place_for(item.key(), meter) {
             Ok(place) => Ok(Some(self.replace_in(place, item))),

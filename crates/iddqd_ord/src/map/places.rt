@@ -1,12 +1,12 @@
 //! Single items and their places.
-ghost use Rattle.std.specs.Prelude.{◌≡◌, ◌≢◌, ℕ, true, false, ◌+◌, ◌-◌, ◌*◌, ◌^◌, ◌<◌, ◌≤◌, ◌∷◌, not, drop, length, max, IfSome, IfOk, IfErr, slice_get, slice_index_or, slice_set, OnOk, OnErr};
+ghost use Rattle.std.specs.Prelude.{◌≡◌, true, false, ◌+◌, ◌-◌, ◌*◌, ◌<◌, ◌≤◌, ◌∷◌, not, drop, length, max, IfSome, IfOk, IfErr, slice_get, slice_index_or, slice_set, OnOk, OnErr};
 ghost use Rattle.std.specs.List.{insert, remove};
 ghost use Rattle.std.specs.Option.{option_and_then};
 ghost use Rattle.iddqd_store.specs.Bag.{IsOnly};
 ghost use Rattle.std.specs.Range.Bound.{bound_map};
 ghost use Rattle.std.specs.declared.cmp.Ordering.TheVariants.{Equal};
 ghost use Rattle.iddqd_order.specs.Row.{position, index_of, HasEntry, IsPlace};
-ghost use Rattle.iddqd_order.specs.Search.{IsSplit, IsStartOf, is_past, side_of};
+ghost use Rattle.iddqd_order.specs.Search.{ComparesWithin, IsSplit, IsStartOf, is_past, side_of};
 ghost use Rattle.iddqd_ord.specs.Items.{items, has, query_comparison, key_comparison, is_from, is_to};
 ghost use Rattle.iddqd_ord.specs.Ordered.{IsAscending};
 
@@ -94,7 +94,7 @@ impl<T: IdOrdItem> IdOrdMap<T> {
             (position self.now.blocks p) 0) }
         ensures ascending { IsAscending T.Key.cmp T.key (items self.now) }
         ensures fits { length (items self.now) ≤ self.now.capacity }
-        ensures asked { (r : ℕ) → length (items self.now) < 4 ^ r → meter.new ≤ meter.old + (3 * r + 19) }
+        ensures asked { ComparesWithin 3 19 (length (items self.now)) meter.old meter.new }
     {
         self.items.search(&ByQuery { query: &query }, meter)
     }
@@ -115,7 +115,7 @@ impl<T: IdOrdItem> IdOrdMap<T> {
             (position self.now.blocks p) 0) }
         ensures ascending { IsAscending T.Key.cmp T.key (items self.now) }
         ensures fits { length (items self.now) ≤ self.now.capacity }
-        ensures asked { (r : ℕ) → length (items self.now) < 4 ^ r → meter.new ≤ meter.old + (3 * r + 19) }
+        ensures asked { ComparesWithin 3 19 (length (items self.now)) meter.old meter.new }
     {
         self.items
             .search_last_first(&ByQuery { query: &query }, meter)
@@ -177,7 +177,7 @@ impl<T: IdOrdItem> IdOrdMap<T> {
             (option_and_then (λ p. slice_get (items self.now) (position self.now.blocks p)) result) }
         ensures index { (y : T) → IfSome result (λ p. slice_set (items self.now) (position self.now.blocks p) y
             ≡ in_place (has T.IdOrdItem Q.compare query) y (items self.now)) }
-        ensures asked { (r : ℕ) → length (items self.now) < 4 ^ r → meter.new ≤ meter.old + (3 * r + 19) }
+        ensures asked { ComparesWithin 3 19 (length (items self.now)) meter.old meter.new }
     {
         match self.place_of(query, meter) {
             Ok(place) => Some(place),
@@ -303,7 +303,7 @@ impl<T: IdOrdItem> IdOrdMap<T> {
         ensures place { IsPlace self.now.blocks result }
         ensures starts { IsStartOf (λ x. is_past false (query_comparison T.IdOrdItem Q.side query x)) (items self.now)
             (position self.now.blocks result) }
-        ensures asked { (r : ℕ) → length (items self.now) < 4 ^ r → meter.new ≤ meter.old + (3 * r + 19) }
+        ensures asked { ComparesWithin 3 19 (length (items self.now)) meter.old meter.new }
     {
         match self.items.search(&Before { query: &query }, meter) {
             Ok(_) => unreachable!(),
@@ -316,7 +316,7 @@ impl<T: IdOrdItem> IdOrdMap<T> {
         ensures place { IsPlace self.now.blocks result }
         ensures starts { IsStartOf (λ x. is_past true (query_comparison T.IdOrdItem Q.side query x)) (items self.now)
             (position self.now.blocks result) }
-        ensures asked { (r : ℕ) → length (items self.now) < 4 ^ r → meter.new ≤ meter.old + (3 * r + 19) }
+        ensures asked { ComparesWithin 3 19 (length (items self.now)) meter.old meter.new }
     {
         match self.items.search(&Behind { query: &query }, meter) {
             Ok(_) => unreachable!(),
@@ -329,7 +329,7 @@ impl<T: IdOrdItem> IdOrdMap<T> {
         ensures place { IsPlace self.now.blocks result }
         ensures starts { IsStartOf (is_from T.IdOrdItem Q.side (bound_map (λ q. q.now) low.entry)) (items self.now)
             (position self.now.blocks result) }
-        ensures asked { (r : ℕ) → length (items self.now) < 4 ^ r → meter.new ≤ meter.old + (3 * r + 19) }
+        ensures asked { ComparesWithin 3 19 (length (items self.now)) meter.old meter.new }
     {
         match low {
             Bound::Included(query) => self.lower_bound(*query, meter),
@@ -343,7 +343,7 @@ impl<T: IdOrdItem> IdOrdMap<T> {
         ensures place { IsPlace self.now.blocks result }
         ensures starts { IsStartOf (λ x. not (is_to T.IdOrdItem Q.side (bound_map (λ q. q.now) high.entry) x)) (items self.now)
             (position self.now.blocks result) }
-        ensures asked { (r : ℕ) → length (items self.now) < 4 ^ r → meter.new ≤ meter.old + (3 * r + 19) }
+        ensures asked { ComparesWithin 3 19 (length (items self.now)) meter.old meter.new }
     {
         match high {
             Bound::Included(query) => self.upper_bound(*query, meter),

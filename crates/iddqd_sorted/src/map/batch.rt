@@ -5,11 +5,11 @@ ghost use Rattle.iddqd_store.specs.Bag.{IsSound, conflicts_of, tests_of};
 ghost use Rattle.iddqd_store.specs.SlotMap.{AreAny};
 ghost use Rattle.iddqd_store.specs.Slots.{IsLive};
 ghost use Rattle.iddqd_store.specs.Slots.Found.{items_at, StandAt};
-ghost use Rattle.iddqd_sorted.specs.Items.{GrowsUnless, items, by_sort, most_grown, with_item};
+ghost use Rattle.iddqd_sorted.specs.Items.{GrowsUnless, items, most_grown, with_item};
 ghost use Rattle.iddqd_sorted.specs.Ordered.{IsAscending};
 
 use super::Sorted;
-use crate::item::Sortable;
+use crate::item::{SortOrder, Sortable};
 use iddqd_store::{Batch, Costs, Meter, SlotMap, TryReserveError};
 
 impl<M: SlotMap> Sorted<M>
@@ -30,7 +30,7 @@ where
         M::Item: Drop,
         requires { 0 < wanted }
         ensures lists { OnOk result (items self.new
-            ≡ with_item (by_sort M.Item.sort_key M.Item.SortKey.cmp M.first_key M.FirstKey.cmp) (items self.old) item) }
+            ≡ with_item ⟦<M as SortOrder>⟧.order (items self.old) item) }
         ensures gained { OnOk result (IsPermutation (items self.new) (item ∷ items self.old)) }
         ensures free { OnOk result (conflicts_of M.ranks (items self.old) item ≡ []) }
         ensures noted { OnOk result ((xs : List M.Item) → StandAt self.old.slots batch.old.slots xs
@@ -43,7 +43,7 @@ where
         ensures grows_unless { GrowsUnless (length (items self.old) < self.old.capacity) self.old self.new }
         ensures most { self.new.capacity ≤ most_grown self.old.capacity (length (items self.old)) wanted }
         ensures sound { IsSound M.ranks (items self.old) }
-        ensures ascending { IsAscending (by_sort M.Item.sort_key M.Item.SortKey.cmp M.first_key M.FirstKey.cmp) (items self.old) }
+        ensures ascending { IsAscending ⟦<M as SortOrder>⟧.order (items self.old) }
     {
         let full = self.is_full();
         let at = match self.free_places(&item, &mut Costs::new()) {
@@ -66,7 +66,7 @@ where
         ensures full { result ≡ true → length (items self.now) ≡ self.now.capacity }
         ensures spare { result ≡ false → length (items self.now) < self.now.capacity }
         ensures sound { IsSound M.ranks (items self.now) }
-        ensures ascending { IsAscending (by_sort M.Item.sort_key M.Item.SortKey.cmp M.first_key M.FirstKey.cmp) (items self.now) }
+        ensures ascending { IsAscending ⟦<M as SortOrder>⟧.order (items self.now) }
     {
         self.len() == self.capacity()
     }
@@ -97,10 +97,10 @@ where
     pub(super) fn remove_batch(&mut self, batch: Batch<M::Item>) -> Vec<M::Item>
         requires live { All (IsLive self.old.slots) batch.slots }
         requires apart { IsDistinct nat_eq batch.slots }
-        requires in_order { IsAscending (by_sort M.Item.sort_key M.Item.SortKey.cmp M.first_key M.FirstKey.cmp) (items self.old) }
+        requires in_order { IsAscending ⟦<M as SortOrder>⟧.order (items self.old) }
         ensures values { result.items ≡ items_at self.old.slots batch.slots }
         ensures left { IsPermutation (items self.old) (result.items ++ items self.new) }
-        ensures ascending { IsAscending (by_sort M.Item.sort_key M.Item.SortKey.cmp M.first_key M.FirstKey.cmp) (items self.new) }
+        ensures ascending { IsAscending ⟦<M as SortOrder>⟧.order (items self.new) }
         ensures capacity { self.new.capacity ≡ self.old.capacity }
         ensures builder { self.new.builder ≡ self.old.builder }
     {

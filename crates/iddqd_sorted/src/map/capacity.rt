@@ -1,12 +1,12 @@
 //! How many items there are and how many fit, and growing.
-ghost use Rattle.std.specs.Prelude.{[], ◌≡◌, ◌+◌, ◌*◌, ◌<◌, ◌≤◌, ◌==◌, length, max, min, IsErr, OnOk, OnErr};
+ghost use Rattle.std.specs.Prelude.{[], ◌≡◌, ◌+◌, ◌<◌, ◌≤◌, ◌==◌, length, max, min, IsErr, OnOk, OnErr};
 ghost use Rattle.iddqd_store.specs.Bag.{IsSound};
 ghost use Rattle.iddqd_store.specs.Table.Limit.{most_room};
-ghost use Rattle.iddqd_sorted.specs.Items.{items, by_sort, most_grown, MakesRoom};
+ghost use Rattle.iddqd_sorted.specs.Items.{items, most_grown, MakesRoom};
 ghost use Rattle.iddqd_sorted.specs.Ordered.{IsAscending};
 
 use super::Sorted;
-use crate::item::Sortable;
+use crate::item::{SortOrder, Sortable};
 use iddqd_store::{AHEAD, SlotMap, TryReserveError, at_once};
 
 impl<M: SlotMap> Sorted<M>
@@ -17,7 +17,7 @@ where
     /// Returns the number of items.
     pub fn len(&self) -> usize
         ensures value { result ≡ length (items self.now) }
-        ensures ascending { IsAscending (by_sort M.Item.sort_key M.Item.SortKey.cmp M.first_key M.FirstKey.cmp) (items self.now) }
+        ensures ascending { IsAscending ⟦<M as SortOrder>⟧.order (items self.now) }
         ensures sound { IsSound M.ranks (items self.now) }
     {
         self.map.len()

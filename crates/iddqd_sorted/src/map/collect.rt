@@ -4,12 +4,12 @@ ghost use Rattle.std.specs.Iterator.{IsFiniteIterable};
 ghost use Rattle.iddqd_store.specs.Bag.{conflicts_of};
 ghost use Rattle.iddqd_store.specs.Bag.Building.{GivesAll, GivesThen};
 ghost use Rattle.iddqd_sorted.specs.Batches.{AddsInOrder, TellsWhyBehind};
-ghost use Rattle.iddqd_sorted.specs.Items.{items, by_sort, most_extended};
+ghost use Rattle.iddqd_sorted.specs.Items.{items, most_extended};
 ghost use Rattle.iddqd_sorted.specs.Overwriting.{ExtendsTo, overwritten};
 
 use super::Sorted;
 use crate::error::ExtendUniqueError;
-use crate::item::Sortable;
+use crate::item::{SortOrder, Sortable};
 use iddqd_store::{MemoryRefused, SlotMap};
 use std::alloc::{AllocError, Global};
 use std::default::MadeWith;
@@ -30,14 +30,14 @@ where
         requires finite { IsFiniteIterable I.into_iter_gives I.IntoIter.can_next I.IntoIter.remaining iter }
         // Each item was inserted in place of what conflicts with it, and the items fit.
         ensures all { IfOk result (λ map. GivesAll I.into_iter_gives I.IntoIter.next_gives iter (λ xs. items map
-            ≡ fold (overwritten M.ranks (by_sort M.Item.sort_key M.Item.SortKey.cmp M.first_key M.FirstKey.cmp)) [] xs)) }
+            ≡ fold (overwritten M.ranks ⟦<M as SortOrder>⟧.order) [] xs)) }
         ensures fits { IfOk result (λ map. length (items map) ≤ map.capacity) }
         // Whatever the iterator promises, the capacity has a bound by what it gave.
         ensures most { IfOk result (λ map. GivesAll I.into_iter_gives I.IntoIter.next_gives iter (λ xs. map.capacity
             ≤ most_extended 0 (length xs))) }
         // The error has the first item for which there was no memory. Nothing conflicts with it.
         ensures refused { IfErr result (λ e. GivesThen I.into_iter_gives I.IntoIter.next_gives iter e.value (λ xs. conflicts_of M.ranks
-            (fold (overwritten M.ranks (by_sort M.Item.sort_key M.Item.SortKey.cmp M.first_key M.FirstKey.cmp)) [] xs) e.value ≡ [])) }
+            (fold (overwritten M.ranks ⟦<M as SortOrder>⟧.order) [] xs) e.value ≡ [])) }
         ensures builder { IfOk result (λ map. M.Builder.is_default map.builder) }
     {
         let mut map = Sorted::default(alloc);
@@ -59,7 +59,7 @@ where
         requires finite { IsFiniteIterable I.into_iter_gives I.IntoIter.can_next I.IntoIter.remaining iter }
         // The map has all that the iterator gave, in order.
         ensures all { IfOk result (λ map. GivesAll I.into_iter_gives I.IntoIter.next_gives iter (AddsInOrder M.ranks
-            (by_sort M.Item.sort_key M.Item.SortKey.cmp M.first_key M.FirstKey.cmp) [] (items map))) }
+            ⟦<M as SortOrder>⟧.order [] (items map))) }
         ensures most { IfOk result (λ map. map.capacity ≤ most_extended 0 (length (items map))) }
         // The error has the first item that could not be inserted, and those before it.
         ensures refused { IfErr result (λ e. GivesThen I.into_iter_gives I.IntoIter.next_gives iter (M.rejected_item e.rejected)
@@ -85,7 +85,7 @@ where
     type Alloc = Global;
 
     ghost from_iter_gives = { λ xs m. (items m
-        ≡ fold (overwritten M.ranks (by_sort M.Item.sort_key M.Item.SortKey.cmp M.first_key M.FirstKey.cmp)) [] xs)
+        ≡ fold (overwritten M.ranks ⟦<M as SortOrder>⟧.order) [] xs)
         × (length (items m) ≤ m.capacity) };
 
     fn from_iter<U: IntoIterator<Item = M::Item>>(
@@ -104,7 +104,7 @@ where
     M::FirstKey: Ord,
 {
     ghost extend_gives = { λ m xs n. ExtendsTo M.ranks
-        (by_sort M.Item.sort_key M.Item.SortKey.cmp M.first_key M.FirstKey.cmp) m xs n };
+        ⟦<M as SortOrder>⟧.order m xs n };
 
     fn extend<U: IntoIterator<Item = M::Item>>(&mut self, iter: U) -> Result<(), AllocError> {
         Ok(Sorted::extend(self, iter)?)

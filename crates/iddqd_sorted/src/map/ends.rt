@@ -1,11 +1,11 @@
 //! The items at the ends of the order, and those up to a sort key.
 ghost use Rattle.std.specs.Prelude.{◌≡◌, [], ◌∷◌, ◌++◌, ◌-◌, true, filter, length, slice_get, option_copied, MatchOption, IfSome, IfNone};
 ghost use Rattle.std.specs.Ordering.{is_ge, is_le, is_lt};
-ghost use Rattle.iddqd_sorted.specs.Items.{items, by_sort};
+ghost use Rattle.iddqd_sorted.specs.Items.{items};
 ghost use Rattle.iddqd_sorted.specs.Ordered.{IsAscending};
 
 use super::Sorted;
-use crate::item::Sortable;
+use crate::item::{SortOrder, Sortable};
 use iddqd_store::{Meter, SlotMap};
 use std::cmp::Ordering;
 
@@ -18,7 +18,7 @@ where
     /// key. The call compares and hashes no key.
     pub fn first(&self) -> Option<&M::Item>
         ensures item { option_copied result ≡ slice_get (items self.now) 0 }
-        ensures ascending { IsAscending (by_sort M.Item.sort_key M.Item.SortKey.cmp M.first_key M.FirstKey.cmp) (items self.now) }
+        ensures ascending { IsAscending ⟦<M as SortOrder>⟧.order (items self.now) }
     {
         let place = self.order.first()?;
         Some(self.item_in(place))
@@ -28,7 +28,7 @@ where
     /// first key. The call compares and hashes no key.
     pub fn last(&self) -> Option<&M::Item>
         ensures item { option_copied result ≡ slice_get (items self.now) (length (items self.now) - 1) }
-        ensures ascending { IsAscending (by_sort M.Item.sort_key M.Item.SortKey.cmp M.first_key M.FirstKey.cmp) (items self.now) }
+        ensures ascending { IsAscending ⟦<M as SortOrder>⟧.order (items self.now) }
     {
         let place = self.order.last()?;
         Some(self.item_in(place))

@@ -2,11 +2,11 @@
 ghost use Rattle.std.specs.Prelude.{length, IfErr, IsOk, OnOk};
 ghost use Rattle.std.specs.Iterator.{IsFiniteIterable};
 ghost use Rattle.iddqd_store.specs.Bag.Building.{FitsOn, GivesAll, GivesThen};
-ghost use Rattle.iddqd_sorted.specs.Items.{GrowsUnless, items, by_sort, IsFullFor};
+ghost use Rattle.iddqd_sorted.specs.Items.{GrowsUnless, items, IsFullFor};
 ghost use Rattle.iddqd_sorted.specs.Overwriting.{ExtendsTo};
 
 use super::Sorted;
-use crate::item::Sortable;
+use crate::item::{SortOrder, Sortable};
 use iddqd_store::{AHEAD, Costs, MemoryRefused, Meter, SlotMap, at_once};
 
 impl<M: SlotMap> Sorted<M>
@@ -30,9 +30,9 @@ where
         requires finite { IsFiniteIterable I.into_iter_gives I.IntoIter.can_next I.IntoIter.remaining iter }
         // After `Ok`, each item was inserted in place of what conflicts with it; after an error, each item before the returned one.
         ensures all { OnOk result (GivesAll I.into_iter_gives I.IntoIter.next_gives iter (λ xs. ExtendsTo M.ranks
-            (by_sort M.Item.sort_key M.Item.SortKey.cmp M.first_key M.FirstKey.cmp) self.old xs self.new)) }
+            ⟦<M as SortOrder>⟧.order self.old xs self.new)) }
         ensures refused { IfErr result (λ e. GivesThen I.into_iter_gives I.IntoIter.next_gives iter e.value (λ xs. ExtendsTo M.ranks
-            (by_sort M.Item.sort_key M.Item.SortKey.cmp M.first_key M.FirstKey.cmp) self.old xs self.new)) }
+            ⟦<M as SortOrder>⟧.order self.old xs self.new)) }
         // The call fails only if the map is full and nothing conflicts with the item.
         ensures full { IfErr result (λ e. IsFullFor M.ranks self.new e.value) }
         // If as many items fit as the iterator may give, the call succeeds, and the capacity stays.

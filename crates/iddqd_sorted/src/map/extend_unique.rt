@@ -3,11 +3,11 @@ ghost use Rattle.std.specs.Prelude.{◌≡◌, ◌+◌, ◌≤◌, length, IfErr
 ghost use Rattle.std.specs.Iterator.{IsFiniteIterable};
 ghost use Rattle.iddqd_store.specs.Bag.Building.{FitsOn, GivesAll, GivesThen};
 ghost use Rattle.iddqd_sorted.specs.Batches.{AddsInOrder, TellsWhyBehind};
-ghost use Rattle.iddqd_sorted.specs.Items.{GrowsUnless, items, by_sort, most_extended};
+ghost use Rattle.iddqd_sorted.specs.Items.{GrowsUnless, items, most_extended};
 
 use super::Sorted;
 use crate::error::ExtendUniqueError;
-use crate::item::Sortable;
+use crate::item::{SortOrder, Sortable};
 use iddqd_store::SlotMap;
 
 impl<M: SlotMap> Sorted<M>
@@ -44,7 +44,7 @@ where
         requires finite { IsFiniteIterable I.into_iter_gives I.IntoIter.can_next I.IntoIter.remaining iter }
         // The map has its items and all that the iterator gave, in order.
         ensures all { OnOk result (GivesAll I.into_iter_gives I.IntoIter.next_gives iter (AddsInOrder M.ranks
-            (by_sort M.Item.sort_key M.Item.SortKey.cmp M.first_key M.FirstKey.cmp) (items self.old) (items self.new))) }
+            ⟦<M as SortOrder>⟧.order (items self.old) (items self.new))) }
         // Or it has its items, and the error has the first item that could not be inserted, and those before it.
         ensures same_items { OnErr result (items self.new ≡ items self.old) }
         ensures refused { IfErr result (λ e. GivesThen I.into_iter_gives I.IntoIter.next_gives iter (M.rejected_item e.rejected)

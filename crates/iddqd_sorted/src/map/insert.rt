@@ -1,21 +1,20 @@
 //! Inserting an item whose keys no other has.
-ghost use Rattle.std.specs.Prelude.{◌≡◌, ◌≢◌, ℕ, ◌+◌, ◌*◌, ◌^◌, ◌<◌, ◌≤◌, [], ◌∷◌, length, map, Some, None, if◌then◌else◌, is_some, is_ok, IsOk, OnOk, OnErr, IfOk, IfErr, IsPermutation};
+ghost use Rattle.std.specs.Prelude.{◌≡◌, ◌+◌, ◌<◌, ◌≤◌, [], ◌∷◌, length, map, Some, None, if◌then◌else◌, is_ok, IsOk, OnOk, OnErr, IfOk, IfErr, IsPermutation};
 ghost use Rattle.std.specs.List.{insert};
-ghost use Rattle.iddqd_store.specs.Bag.{conflicting, conflicts_of, tests_of};
+ghost use Rattle.iddqd_store.specs.Bag.{conflicts_of};
 ghost use Rattle.iddqd_store.specs.Rank.{walks_within};
-ghost use Rattle.iddqd_store.specs.Rank.All.{AreHashed, ArePlacesOf, HaveHashes, PlacingCosts, hashes_of};
-ghost use Rattle.iddqd_store.specs.SlotMap.{AreAny, NoneTrue, SearchesEach};
+ghost use Rattle.iddqd_store.specs.Rank.All.{ArePlacesOf, PlacingCosts, hashes_of};
+ghost use Rattle.iddqd_store.specs.SlotMap.{SearchesEach};
 ghost use Rattle.iddqd_store.specs.Slots.{get, Updates};
-ghost use Rattle.iddqd_store.specs.Slots.Found.{StandAt, each_once};
 ghost use Rattle.iddqd_order.specs.Row.{position, IsPlace};
-ghost use Rattle.iddqd_sorted.specs.Inserts.{TellsWhy};
-ghost use Rattle.iddqd_sorted.specs.Items.{items, bag, by_sort, Gains};
+ghost use Rattle.iddqd_sorted.specs.Inserts.{FindsTaken, TellsWhy};
+ghost use Rattle.iddqd_sorted.specs.Items.{items, bag, Gains};
 ghost use Rattle.iddqd_sorted.specs.Ordered.{IsAscending};
-ghost use Rattle.iddqd_order.specs.Search.{IsSplit};
+ghost use Rattle.iddqd_order.specs.Search.{ComparesWithin, IsSplit};
 
 use super::Sorted;
 use crate::entry::Entry;
-use crate::item::Sortable;
+use crate::item::{SortOrder, Sortable};
 use iddqd_order::Place;
 use iddqd_store::{Costs, ItemIndex, Meter, SlotMap};
 
@@ -36,7 +35,7 @@ where
     /// asks for more capacity only if the map is full.
     pub fn try_insert(&mut self, item: M::Item) -> Result<(), M::Rejected>
         // The result is `Ok` only if no item has one of the keys, and then always if there is spare capacity.
-        ensures gains { OnOk result (Gains (by_sort M.Item.sort_key M.Item.SortKey.cmp M.first_key M.FirstKey.cmp) 1 self.old item self.new) }
+        ensures gains { OnOk result (Gains ⟦<M as SortOrder>⟧.order 1 self.old item self.new) }
         ensures free { OnOk result (conflicts_of M.ranks (items self.old) item ≡ []) }
         ensures granted { conflicts_of M.ranks (items self.old) item ≡ []
             → length (items self.old) < self.old.capacity → IsOk result }
@@ -57,14 +56,14 @@ where
         costs: &mut Costs,
         meter: &mut Meter,
     ) -> Result<(), M::Rejected>
-        ensures gains { OnOk result (Gains (by_sort M.Item.sort_key M.Item.SortKey.cmp M.first_key M.FirstKey.cmp) 1 self.old item self.new) }
+        ensures gains { OnOk result (Gains ⟦<M as SortOrder>⟧.order 1 self.old item self.new) }
         ensures free { OnOk result (conflicts_of M.ranks (items self.old) item ≡ []) }
         ensures granted { conflicts_of M.ranks (items self.old) item ≡ []
             → length (items self.old) < self.old.capacity → IsOk result }
         ensures handed_back { IfErr result (λ e. M.rejected_item e ≡ item) }
         ensures unchanged { OnErr result (self.new ≡ self.old) }
         ensures reason { IfErr result (λ e. TellsWhy M.ranks self.old item (M.rejected_flags e)) }
-        ensures asked { (r : ℕ) → length (items self.old) < 4 ^ r → meter.new ≤ meter.old + (3 * r + 19) }
+        ensures asked { ComparesWithin 3 19 (length (items self.old)) meter.old meter.new }
         ensures costs { PlacingCosts (M.hashes self.old.builder) (bag self.old) self.old.capacity
             (hashes_of (M.hashes self.old.builder) item) (map (λ _. if is_ok result then 1 else 0) M.ranks) costs.old costs.new }
     {
@@ -94,13 +93,13 @@ where
         requires free { conflicts_of M.ranks (items self.old) item ≡ [] }
         requires free_slots { conflicts_of M.ranks (bag self.old) item ≡ [] }
         requires places { ArePlacesOf (M.hashes self.old.builder) (bag self.old) item (M.spots at) }
-        ensures gains { OnOk result (Gains (by_sort M.Item.sort_key M.Item.SortKey.cmp M.first_key M.FirstKey.cmp) wanted self.old item self.new) }
+        ensures gains { OnOk result (Gains ⟦<M as SortOrder>⟧.order wanted self.old item self.new) }
         ensures gained { OnOk result (IsPermutation (items self.new) (item ∷ items self.old)) }
         ensures granted { length (items self.old) < self.old.capacity → IsOk result }
         ensures handed_back { IfErr result (λ x. x ≡ item) }
         ensures unchanged { OnErr result (self.new ≡ self.old) }
         ensures full { OnErr result (length (items self.old) ≡ self.old.capacity) }
-        ensures asked { (r : ℕ) → length (items self.old) < 4 ^ r → meter.new ≤ meter.old + (3 * r + 19) }
+        ensures asked { ComparesWithin 3 19 (length (items self.old)) meter.old meter.new }
         ensures probed { probed.new ≤ probed.old + walks_within (length (bag self.old))
             (map (λ _. if is_ok result then 1 else 0) M.ranks) }
     {
@@ -124,17 +123,9 @@ where
         ensures free { OnOk result (conflicts_of M.ranks (items self.now) item.now ≡ []) }
         ensures free_slots { OnOk result (conflicts_of M.ranks (bag self.now) item.now ≡ []) }
         ensures places { IfOk result (λ at. ArePlacesOf (M.hashes self.now.builder) (bag self.now) item.now (M.spots at)) }
-        ensures taken { IfErr result (λ found. AreAny (map (λ at. is_some at.slot) (M.searched found))
-            (tests_of M.ranks item.now) (items self.now)) }
-        ensures conflict { OnErr result (conflicts_of M.ranks (items self.now) item.now ≢ []) }
-        ensures some { IfErr result (λ found. NoneTrue (map (λ at. is_some at.slot) (M.searched found)) → ⊥) }
-        ensures stand { IfErr result (λ found. StandAt self.now.slots (each_once (map (λ at. at.slot) (M.searched found)))
-            (conflicting M.ranks (bag self.now) item.now)) }
-        ensures hashes { IfErr result (λ found. HaveHashes (hashes_of (M.hashes self.now.builder) item.now) (M.searched found)) }
-        ensures hashed { IfErr result (λ found. AreHashed (M.hashes self.now.builder) self.now.slots (M.searched found)) }
-        ensures same_conflicts { OnErr result (conflicting M.ranks (bag self.now) item.now ≡ conflicting M.ranks (items self.now) item.now) }
+        ensures finds { IfErr result (λ found. FindsTaken M.ranks (M.hashes self.now.builder) self.now item.now (M.searched found)) }
         ensures listed { IsPermutation (bag self.now) (items self.now) }
-        ensures ascending { IsAscending (by_sort M.Item.sort_key M.Item.SortKey.cmp M.first_key M.FirstKey.cmp) (items self.now) }
+        ensures ascending { IsAscending ⟦<M as SortOrder>⟧.order (items self.now) }
         ensures costs { SearchesEach (M.hashes self.now.builder) (bag self.now) self.now.capacity item.now costs.old costs.new }
     {
         self.map.places(item, costs)
@@ -153,7 +144,7 @@ where
         requires free { conflicts_of M.ranks (bag self.old) item ≡ [] }
         requires places { ArePlacesOf (M.hashes self.old.builder) (bag self.old) item (M.spots at) }
         requires gap { IsPlace self.old.blocks place
-            × IsSplit (λ y. by_sort M.Item.sort_key M.Item.SortKey.cmp M.first_key M.FirstKey.cmp y item) (items self.old)
+            × IsSplit (λ y. ⟦<M as SortOrder>⟧.order y item) (items self.old)
             (position self.old.blocks place) 0 }
         ensures inserted { items self.new ≡ insert (items self.old) (position self.old.blocks place) item }
         ensures kept { (self.new.capacity ≡ self.old.capacity) × (self.new.builder ≡ self.old.builder) }

@@ -1,13 +1,13 @@
 //! Iterating over the items in their order.
-ghost use Rattle.std.specs.Prelude.{◌≡◌, ℕ, ◌+◌, ◌*◌, ◌^◌, ◌<◌, ◌≤◌, ◌&&◌, filter, length};
-ghost use Rattle.std.specs.Map.Iter.{ShowsInOrder, ShowsInReverse, deref};
-ghost use Rattle.std.specs.Ordering.{is_eq, is_lt, is_ge};
-ghost use Rattle.iddqd_sorted.specs.Items.{items, by_sort};
+ghost use Rattle.std.specs.Prelude.{◌≡◌, ◌^◌, ◌<◌, filter, length};
+ghost use Rattle.std.specs.Ordering.{is_eq};
+ghost use Rattle.iddqd_sorted.specs.Items.{items};
 ghost use Rattle.iddqd_sorted.specs.Ordered.{IsAscending};
-ghost use Rattle.iddqd_order.specs.Walks.{MeetsFirst, MeetsLast};
+ghost use Rattle.iddqd_order.specs.Walks.{IsWalked};
+ghost use Rattle.iddqd_order.specs.Search.{ComparesWithin};
 
 use super::Sorted;
-use crate::item::Sortable;
+use crate::item::{SortOrder, Sortable};
 use crate::iter::Iter;
 use iddqd_store::{Meter, SlotMap};
 use std::fmt::{self, Debug, Formatter, Write};
@@ -21,11 +21,8 @@ where
     /// `len` of the iterator takes one step.
     pub fn iter(&self) -> Iter<'_, M::Item>
         ensures gives { result ≡ items self.now }
-        ensures ascending { IsAscending (by_sort M.Item.sort_key M.Item.SortKey.cmp M.first_key M.FirstKey.cmp) (items self.now) }
-        ensures runs { ShowsInOrder (deref {X = M.Item}) }
-        ensures runs_back { ShowsInReverse (deref {X = M.Item}) }
-        ensures meets_first { MeetsFirst M.Item }
-        ensures meets_last { MeetsLast M.Item }
+        ensures ascending { IsAscending ⟦<M as SortOrder>⟧.order (items self.now) }
+        ensures walked { IsWalked M.Item }
         ensures countable { length (items self.now) < 2 ^ 64 }
     {
         Iter::over(self.map.slots(), self.order.iter())
@@ -36,10 +33,7 @@ where
     /// Among fewer than `4 ^ r` items the call compares at most `6 * r + 38` sort keys. It allocates no memory.
     pub fn group(&self, sort_key: &<M::Item as Sortable>::SortKey) -> Iter<'_, M::Item>
         ensures gives { result ≡ filter (λ x. is_eq (M.Item.SortKey.cmp (M.Item.sort_key x) sort_key.now)) (items self.now) }
-        ensures runs { ShowsInOrder (deref {X = M.Item}) }
-        ensures runs_back { ShowsInReverse (deref {X = M.Item}) }
-        ensures meets_first { MeetsFirst M.Item }
-        ensures meets_last { MeetsLast M.Item }
+        ensures walked { IsWalked M.Item }
         ensures countable { length result < 2 ^ 64 }
     {
         self.group_counted(sort_key, &mut Meter::new())
@@ -53,57 +47,12 @@ where
         meter: &mut Meter,
     ) -> Iter<'_, M::Item>
         ensures gives { result ≡ filter (λ x. is_eq (M.Item.SortKey.cmp (M.Item.sort_key x) sort_key.now)) (items self.now) }
-        ensures runs { ShowsInOrder (deref {X = M.Item}) }
-        ensures runs_back { ShowsInReverse (deref {X = M.Item}) }
-        ensures meets_first { MeetsFirst M.Item }
-        ensures meets_last { MeetsLast M.Item }
+        ensures walked { IsWalked M.Item }
         ensures countable { length result < 2 ^ 64 }
-        ensures asked { (r : ℕ) → length (items self.now) < 4 ^ r → meter.new ≤ meter.old + (6 * r + 38) }
+        ensures asked { ComparesWithin 6 38 (length (items self.now)) meter.old meter.new }
     {
-        let from = self.place_before(sort_key, meter);
-        let to = self.place_behind(sort_key, meter);
-        Iter::over(self.map.slots(), self.order.range(from, to))
-    }
-
-    /// Iterates over the items from a sort key on and before another one, in their order, from both ends. There are none if the
-    /// second is not the higher one.
-    ///
-    /// Among fewer than `4 ^ r` items the call compares at most `6 * r + 38` sort keys. It allocates no memory.
-    pub fn between(
-        &self,
-        from: &<M::Item as Sortable>::SortKey,
-        before: &<M::Item as Sortable>::SortKey,
-    ) -> Iter<'_, M::Item>
-        ensures gives { result ≡ filter (λ x. is_ge (M.Item.SortKey.cmp (M.Item.sort_key x) from.now)
-            && is_lt (M.Item.SortKey.cmp (M.Item.sort_key x) before.now)) (items self.now) }
-        ensures runs { ShowsInOrder (deref {X = M.Item}) }
-        ensures runs_back { ShowsInReverse (deref {X = M.Item}) }
-        ensures meets_first { MeetsFirst M.Item }
-        ensures meets_last { MeetsLast M.Item }
-        ensures countable { length result < 2 ^ 64 }
-    {
-        self.between_counted(from, before, &mut Meter::new())
-    }
-
-    /// Iterates as `between` does, which calls it, and counts the comparisons.
-    #[inline(always)]
-    fn between_counted(
-        &self,
-        from: &<M::Item as Sortable>::SortKey,
-        before: &<M::Item as Sortable>::SortKey,
-        meter: &mut Meter,
-    ) -> Iter<'_, M::Item>
-        ensures gives { result ≡ filter (λ x. is_ge (M.Item.SortKey.cmp (M.Item.sort_key x) from.now)
-            && is_lt (M.Item.SortKey.cmp (M.Item.sort_key x) before.now)) (items self.now) }
-        ensures runs { ShowsInOrder (deref {X = M.Item}) }
-        ensures runs_back { ShowsInReverse (deref {X = M.Item}) }
-        ensures meets_first { MeetsFirst M.Item }
-        ensures meets_last { MeetsLast M.Item }
-        ensures countable { length result < 2 ^ 64 }
-        ensures asked { (r : ℕ) → length (items self.now) < 4 ^ r → meter.new ≤ meter.old + (6 * r + 38) }
-    {
-        let from = self.place_before(from, meter);
-        let to = self.place_before(before, meter);
+        let from = self.lower_bound(sort_key, meter);
+        let to = self.upper_bound(sort_key, meter);
         Iter::over(self.map.slots(), self.order.range(from, to))
     }
 }

@@ -1,18 +1,20 @@
 //! Inserting an item in place of those that conflict with it.
-ghost use Rattle.std.specs.Prelude.{◌≡◌, ◌≢◌, ℕ, ◌+◌, ◌*◌, ◌^◌, ◌<◌, ◌≤◌, [], ◌∷◌, All, length, map, nat_eq, None, Some, ◌++◌, IsOk, OnOk, OnErr, IfOk, IfErr, IsPermutation, slice_set};
+ghost use Rattle.std.specs.Prelude.{◌≡◌, ℕ, ◌+◌, ◌*◌, ◌^◌, ◌<◌, ◌≤◌, [], ◌∷◌, All, length, map, nat_eq, None, Some, ◌++◌, IsOk, OnOk, OnErr, IfOk, IfErr, IsPermutation, slice_set};
 ghost use Rattle.std.specs.List.{IsDistinct};
 ghost use Rattle.iddqd_store.specs.Bag.{conflicting, conflicts_of};
 ghost use Rattle.iddqd_store.specs.Map.{Loses, PutsAt};
 ghost use Rattle.iddqd_store.specs.Rank.{walks_within};
 ghost use Rattle.iddqd_store.specs.Rank.All.{AreHashed, HaveHashes, PlacingCosts, hashes_of};
 ghost use Rattle.iddqd_store.specs.Slots.{contents, get, IsLive};
-ghost use Rattle.iddqd_store.specs.Slots.Found.{StandAt, each_once, items_at};
-ghost use Rattle.iddqd_sorted.specs.Items.{items, bag, by_sort, IsFullFor};
+ghost use Rattle.iddqd_store.specs.Slots.Found.{items_at};
+ghost use Rattle.iddqd_sorted.specs.Inserts.{FindsTaken};
+ghost use Rattle.iddqd_sorted.specs.Items.{items, bag, IsFullFor};
 ghost use Rattle.iddqd_sorted.specs.Ordered.{IsAscending};
 ghost use Rattle.iddqd_sorted.specs.Overwriting.{Overwrites, map_of};
 
 use super::Sorted;
-use crate::item::Sortable;
+use super::settle::{place_of_slot, settle};
+use crate::item::{SortOrder, Sortable};
 use iddqd_store::{Costs, ItemIndex, MemoryRefused, Meter, SlotMap, UpToThree};
 
 impl<M: SlotMap> Sorted<M>
@@ -35,7 +37,7 @@ where
     ) -> Result<UpToThree<M::Item>, MemoryRefused<M::Item>>
         // The conflicting items are returned, in the order of the item's keys, and the item is in their place.
         ensures displaced { IfOk result (λ gone. gone ≡ conflicting M.ranks (items self.old) item) }
-        ensures overwrites { OnOk result (Overwrites M.ranks (by_sort M.Item.sort_key M.Item.SortKey.cmp M.first_key M.FirstKey.cmp) 1 self.old item self.new) }
+        ensures overwrites { OnOk result (Overwrites M.ranks ⟦<M as SortOrder>⟧.order 1 self.old item self.new) }
         // With spare capacity the call never fails.
         ensures granted { length (items self.old) < self.old.capacity → IsOk result }
         // The error has the item, and the map is as it was. This happens only in a full map, without a conflict.
@@ -59,7 +61,7 @@ where
     ) -> Result<UpToThree<M::Item>, MemoryRefused<M::Item>>
         requires wanted { 0 < wanted }
         ensures displaced { IfOk result (λ gone. gone ≡ conflicting M.ranks (items self.old) item) }
-        ensures overwrites { OnOk result (Overwrites M.ranks (by_sort M.Item.sort_key M.Item.SortKey.cmp M.first_key M.FirstKey.cmp) wanted self.old item self.new) }
+        ensures overwrites { OnOk result (Overwrites M.ranks ⟦<M as SortOrder>⟧.order wanted self.old item self.new) }
         ensures granted { length (items self.old) < self.old.capacity → IsOk result }
         ensures handed_back { IfErr result (λ e. e.value ≡ item) }
         ensures unchanged { OnErr result (self.new ≡ self.old) }
@@ -89,16 +91,12 @@ where
         probed: &mut Meter,
         meter: &mut Meter,
     ) -> UpToThree<M::Item>
-        requires stand { StandAt self.old.slots (each_once (map (λ at. at.slot) (M.searched found.now)))
-            (conflicting M.ranks (bag self.old) item) }
-        requires some { conflicting M.ranks (bag self.old) item ≢ [] }
-        requires hashes { HaveHashes (hashes_of (M.hashes self.old.builder) item) (M.searched found.now) }
-        requires hashed { AreHashed (M.hashes self.old.builder) self.old.slots (M.searched found.now) }
+        requires finds { FindsTaken M.ranks (M.hashes self.old.builder) self.old item (M.searched found.now) }
         ensures displaced { result ≡ conflicting M.ranks (bag self.old) item }
         ensures rest { (left : _) × IsPermutation (bag self.old) (conflicting M.ranks (bag self.old) item ++ left)
             × IsPermutation (bag self.new) (item ∷ left) }
         ensures listed { IsPermutation (bag self.new) (items self.new) }
-        ensures ascending { IsAscending (by_sort M.Item.sort_key M.Item.SortKey.cmp M.first_key M.FirstKey.cmp) (items self.new) }
+        ensures ascending { IsAscending ⟦<M as SortOrder>⟧.order (items self.new) }
         ensures fits { length (bag self.new) ≤ self.new.capacity }
         ensures capacity { self.new.capacity ≡ self.old.capacity }
         ensures builder { self.new.builder ≡ self.old.builder }
@@ -157,15 +155,15 @@ where
         ensures value { get self.old.slots slot ≡ Some result }
         ensures puts_at { PutsAt M.ranks (map_of self.old) slot item (item ∷ contents (slice_set self.old.slots slot None)) (map_of self.new) }
         ensures listed { IsPermutation (bag self.new) (items self.new) }
-        ensures ascending { IsAscending (by_sort M.Item.sort_key M.Item.SortKey.cmp M.first_key M.FirstKey.cmp) (items self.new) }
+        ensures ascending { IsAscending ⟦<M as SortOrder>⟧.order (items self.new) }
         ensures asked { (r : ℕ) → length (bag self.old) < 4 ^ r → meter.new ≤ meter.old + 2 * (3 * r + 19) }
         ensures probed { probed.new ≤ probed.old + walks_within (length (bag self.old)) (map (λ _. 2) M.ranks) }
     {
-        let place = Sorted::<M>::place_of_slot(&self.map, &self.order, slot, meter);
+        let place = place_of_slot(&self.map, &self.order, slot, meter);
         // The map goes first: it may hash keys, which runs code of the caller, and the order does not.
         let gone = self.map.overwrite_at(slot, item, found, probed);
         let _ = self.order.remove(place);
-        Sorted::<M>::settle(&self.map, &mut self.order, slot, meter);
+        settle(&self.map, &mut self.order, slot, meter);
         gone
     }
 }

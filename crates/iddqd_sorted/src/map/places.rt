@@ -1,14 +1,14 @@
 //! Single items and their places in the order.
-ghost use Rattle.std.specs.Prelude.{◌≡◌, ℕ, ◌+◌, ◌*◌, ◌<◌, ◌≤◌, ◌^◌, true, false, length, map, IfOk, IfErr, slice_index_or};
+ghost use Rattle.std.specs.Prelude.{◌≡◌, ◌+◌, ◌<◌, ◌≤◌, true, false, length, map, IfOk, IfErr, slice_index_or};
 ghost use Rattle.std.specs.List.{remove};
 ghost use Rattle.iddqd_store.specs.Rank.{walks_within};
 ghost use Rattle.iddqd_order.specs.Row.{position, HasEntry, IsPlace};
-ghost use Rattle.iddqd_sorted.specs.Items.{items, by_sort};
-ghost use Rattle.iddqd_order.specs.Search.{IsSplit, IsStartOf, is_past};
+ghost use Rattle.iddqd_sorted.specs.Items.{items};
+ghost use Rattle.iddqd_order.specs.Search.{ComparesWithin, IsSplit, IsStartOf, is_past};
 
 use super::Sorted;
 use crate::compare::{Before, Behind, ByItem};
-use crate::item::Sortable;
+use crate::item::{SortOrder, Sortable};
 use iddqd_order::Place;
 use iddqd_store::{Meter, SlotMap};
 
@@ -21,12 +21,12 @@ where
     /// it would go. If the last item went to the end, it first looks whether this one does too.
     pub(crate) fn place_of(&self, item: &M::Item, meter: &mut Meter) -> Result<Place, Place>
         ensures entry { IfOk result (HasEntry self.now.blocks) }
-        ensures found { IfOk result (λ p. IsSplit (λ y. by_sort M.Item.sort_key M.Item.SortKey.cmp M.first_key M.FirstKey.cmp y item.now)
+        ensures found { IfOk result (λ p. IsSplit (λ y. ⟦<M as SortOrder>⟧.order y item.now)
             (items self.now) (position self.now.blocks p) 1) }
         ensures place { IfErr result (IsPlace self.now.blocks) }
-        ensures gap { IfErr result (λ p. IsSplit (λ y. by_sort M.Item.sort_key M.Item.SortKey.cmp M.first_key M.FirstKey.cmp y item.now)
+        ensures gap { IfErr result (λ p. IsSplit (λ y. ⟦<M as SortOrder>⟧.order y item.now)
             (items self.now) (position self.now.blocks p) 0) }
-        ensures asked { (r : ℕ) → length (items self.now) < 4 ^ r → meter.new ≤ meter.old + (3 * r + 19) }
+        ensures asked { ComparesWithin 3 19 (length (items self.now)) meter.old meter.new }
     {
         let compare: ByItem<'_, M> = ByItem {
             items: self.map.slots(),
@@ -37,7 +37,7 @@ where
     }
 
     /// Returns the place of the first item whose sort key is not lower than this one. It is the end if there is none.
-    pub(crate) fn place_before(
+    pub(crate) fn lower_bound(
         &self,
         sort_key: &<M::Item as Sortable>::SortKey,
         meter: &mut Meter,
@@ -45,7 +45,7 @@ where
         ensures place { IsPlace self.now.blocks result }
         ensures starts { IsStartOf (λ x. is_past false (M.Item.SortKey.cmp (M.Item.sort_key x) sort_key.now)) (items self.now)
             (position self.now.blocks result) }
-        ensures asked { (r : ℕ) → length (items self.now) < 4 ^ r → meter.new ≤ meter.old + (3 * r + 19) }
+        ensures asked { ComparesWithin 3 19 (length (items self.now)) meter.old meter.new }
     {
         match self.order.search(&Before { sort_key }, meter) {
             Ok(_) => unreachable!(),
@@ -54,7 +54,7 @@ where
     }
 
     /// Returns the place of the first item whose sort key is higher than this one. It is the end if there is none.
-    pub(crate) fn place_behind(
+    pub(crate) fn upper_bound(
         &self,
         sort_key: &<M::Item as Sortable>::SortKey,
         meter: &mut Meter,
@@ -62,7 +62,7 @@ where
         ensures place { IsPlace self.now.blocks result }
         ensures starts { IsStartOf (λ x. is_past true (M.Item.SortKey.cmp (M.Item.sort_key x) sort_key.now)) (items self.now)
             (position self.now.blocks result) }
-        ensures asked { (r : ℕ) → length (items self.now) < 4 ^ r → meter.new ≤ meter.old + (3 * r + 19) }
+        ensures asked { ComparesWithin 3 19 (length (items self.now)) meter.old meter.new }
     {
         match self.order.search(&Behind { sort_key }, meter) {
             Ok(_) => unreachable!(),

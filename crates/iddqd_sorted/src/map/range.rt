@@ -1,11 +1,10 @@
 //! Iterating over the items between two bounds of sort keys.
-ghost use Rattle.std.specs.Prelude.{◌≡◌, ℕ, ◌+◌, ◌*◌, ◌^◌, ◌<◌, ◌≤◌, not, filter, length};
-ghost use Rattle.std.specs.Map.Iter.{ShowsInOrder, ShowsInReverse, deref};
+ghost use Rattle.std.specs.Prelude.{◌≡◌, ◌^◌, ◌<◌, not, filter, length};
 ghost use Rattle.std.specs.Range.Bound.{bound_map};
 ghost use Rattle.iddqd_order.specs.Row.{position, IsPlace};
-ghost use Rattle.iddqd_sorted.specs.Items.{items, is_from, is_to, within};
-ghost use Rattle.iddqd_order.specs.Search.{IsStartOf};
-ghost use Rattle.iddqd_order.specs.Walks.{MeetsFirst, MeetsLast};
+ghost use Rattle.iddqd_sorted.specs.Items.{items, is_from, is_to, is_within};
+ghost use Rattle.iddqd_order.specs.Search.{ComparesWithin, IsStartOf};
+ghost use Rattle.iddqd_order.specs.Walks.{IsWalked};
 
 use super::Sorted;
 use crate::item::Sortable;
@@ -28,11 +27,8 @@ where
         range: R,
     ) -> Iter<'_, M::Item>
         ensures gives { R.has_bounds range → result
-            ≡ filter (within M.Item.sort_key M.Item.SortKey.cmp (R.start_bound range) (R.end_bound range)) (items self.now) }
-        ensures runs { ShowsInOrder (deref {X = M.Item}) }
-        ensures runs_back { ShowsInReverse (deref {X = M.Item}) }
-        ensures meets_first { MeetsFirst M.Item }
-        ensures meets_last { MeetsLast M.Item }
+            ≡ filter (is_within M.Item.sort_key M.Item.SortKey.cmp (R.start_bound range) (R.end_bound range)) (items self.now) }
+        ensures walked { IsWalked M.Item }
         ensures countable { length result < 2 ^ 64 }
     {
         self.range_counted(range, &mut Meter::new())
@@ -46,43 +42,40 @@ where
         meter: &mut Meter,
     ) -> Iter<'_, M::Item>
         ensures gives { R.has_bounds range → result
-            ≡ filter (within M.Item.sort_key M.Item.SortKey.cmp (R.start_bound range) (R.end_bound range)) (items self.now) }
-        ensures runs { ShowsInOrder (deref {X = M.Item}) }
-        ensures runs_back { ShowsInReverse (deref {X = M.Item}) }
-        ensures meets_first { MeetsFirst M.Item }
-        ensures meets_last { MeetsLast M.Item }
+            ≡ filter (is_within M.Item.sort_key M.Item.SortKey.cmp (R.start_bound range) (R.end_bound range)) (items self.now) }
+        ensures walked { IsWalked M.Item }
         ensures countable { length result < 2 ^ 64 }
-        ensures asked { (r : ℕ) → length (items self.now) < 4 ^ r → meter.new ≤ meter.old + (6 * r + 38) }
+        ensures asked { ComparesWithin 6 38 (length (items self.now)) meter.old meter.new }
     {
-        let from = self.first_from(range.start_bound(), meter);
-        let to = self.first_past(range.end_bound(), meter);
+        let from = self.range_start(range.start_bound(), meter);
+        let to = self.range_end(range.end_bound(), meter);
         Iter::over(self.map.slots(), self.order.range(from, to))
     }
 
     /// Returns the place of the first item that is not before a lower bound, or the end if there is none.
-    fn first_from(&self, low: Bound<&<M::Item as Sortable>::SortKey>, meter: &mut Meter) -> Place
+    fn range_start(&self, low: Bound<&<M::Item as Sortable>::SortKey>, meter: &mut Meter) -> Place
         ensures place { IsPlace self.now.blocks result }
         ensures starts { IsStartOf (is_from M.Item.sort_key M.Item.SortKey.cmp (bound_map (λ k. k.now) low.entry)) (items self.now)
             (position self.now.blocks result) }
-        ensures asked { (r : ℕ) → length (items self.now) < 4 ^ r → meter.new ≤ meter.old + (3 * r + 19) }
+        ensures asked { ComparesWithin 3 19 (length (items self.now)) meter.old meter.new }
     {
         match low {
-            Bound::Included(sort_key) => self.place_before(sort_key, meter),
-            Bound::Excluded(sort_key) => self.place_behind(sort_key, meter),
+            Bound::Included(sort_key) => self.lower_bound(sort_key, meter),
+            Bound::Excluded(sort_key) => self.upper_bound(sort_key, meter),
             Bound::Unbounded => self.order.start(),
         }
     }
 
     /// Returns the place of the first item that is behind an upper bound, or the end if there is none.
-    fn first_past(&self, high: Bound<&<M::Item as Sortable>::SortKey>, meter: &mut Meter) -> Place
+    fn range_end(&self, high: Bound<&<M::Item as Sortable>::SortKey>, meter: &mut Meter) -> Place
         ensures place { IsPlace self.now.blocks result }
         ensures starts { IsStartOf (λ x. not (is_to M.Item.sort_key M.Item.SortKey.cmp (bound_map (λ k. k.now) high.entry) x)) (items self.now)
             (position self.now.blocks result) }
-        ensures asked { (r : ℕ) → length (items self.now) < 4 ^ r → meter.new ≤ meter.old + (3 * r + 19) }
+        ensures asked { ComparesWithin 3 19 (length (items self.now)) meter.old meter.new }
     {
         match high {
-            Bound::Included(sort_key) => self.place_behind(sort_key, meter),
-            Bound::Excluded(sort_key) => self.place_before(sort_key, meter),
+            Bound::Included(sort_key) => self.upper_bound(sort_key, meter),
+            Bound::Excluded(sort_key) => self.lower_bound(sort_key, meter),
             Bound::Unbounded => self.order.end(),
         }
     }

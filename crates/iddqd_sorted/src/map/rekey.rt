@@ -1,13 +1,15 @@
 //! Replacing an item by another, whatever their keys are.
-ghost use Rattle.std.specs.Prelude.{[], ◌≡◌, ℕ, ◌+◌, ◌*◌, ◌^◌, ◌<◌, ◌≤◌, not, filter, length, map, Some, IfOk, IfErr, OnOk, OnErr};
+ghost use Rattle.std.specs.Prelude.{[], ◌≡◌, not, filter, length, map, Some, IfOk, IfErr, OnOk, OnErr};
 ghost use Rattle.iddqd_store.specs.Bag.{IsOnly, conflicts_of};
 ghost use Rattle.iddqd_store.specs.Rank.All.{hashes_of};
-ghost use Rattle.iddqd_sorted.specs.Items.{items, bag, by_sort, with_item};
+ghost use Rattle.iddqd_sorted.specs.Items.{items, bag, with_item};
 ghost use Rattle.iddqd_sorted.specs.Keeping.{ComparesOnceIf, SharePlace};
 ghost use Rattle.iddqd_sorted.specs.Keyed.{RekeyingCosts, TellsWhyRefused, refused_item};
+ghost use Rattle.iddqd_order.specs.Search.{ComparesWithin};
 
 use super::Sorted;
-use crate::item::Sortable;
+use super::settle::{place_of_slot, resettle};
+use crate::item::{SortOrder, Sortable};
 use iddqd_store::{Costs, FindsBy, Meter, Query, SlotMap};
 
 /// Why an item does not replace another, with that item.
@@ -41,7 +43,7 @@ where
     where
         M: FindsBy<R>,
         ensures found { IfOk result (λ x. IsOnly (λ y. Q.stands_for query (⟦<M as FindsBy<R>>⟧.key y)) (items self.old) (Some x)) }
-        ensures puts { OnOk result (items self.new ≡ with_item (by_sort M.Item.sort_key M.Item.SortKey.cmp M.first_key M.FirstKey.cmp)
+        ensures puts { OnOk result (items self.new ≡ with_item ⟦<M as SortOrder>⟧.order
             (filter (λ y. not (Q.stands_for query (⟦<M as FindsBy<R>>⟧.key y))) (items self.old)) item) }
         // None of the others has one of the item's keys, so `with_item` leaves none of them out.
         ensures free { OnOk result (conflicts_of M.ranks
@@ -52,10 +54,10 @@ where
         ensures unchanged { OnErr result (self.new ≡ self.old) }
         ensures reason { IfErr result (λ e. TellsWhyRefused M.ranks (λ y. Q.stands_for query (⟦<M as FindsBy<R>>⟧.key y))
             (items self.old) item e) }
-        ensures asked { (r : ℕ) → length (items self.old) < 4 ^ r → meter.new ≤ meter.old + (6 * r + 40) }
+        ensures asked { ComparesWithin 6 40 (length (items self.old)) meter.old meter.new }
         // If the sort key and the first key stay, one comparison is all.
         ensures asked_once { IfOk result (λ x. ComparesOnceIf
-            (SharePlace (by_sort M.Item.sort_key M.Item.SortKey.cmp M.first_key M.FirstKey.cmp) x item) meter.old meter.new) }
+            (SharePlace ⟦<M as SortOrder>⟧.order x item) meter.old meter.new) }
         ensures costs { RekeyingCosts (⟦<M as FindsBy<R>>⟧.key_hash self.old.builder) (M.hashes self.old.builder) (bag self.old)
             self.old.capacity (M.hash_of self.old.builder (Q.hash_input query)) (hashes_of (M.hashes self.old.builder) item)
             (map (λ _. 2) M.ranks) result costs.old costs.new }
@@ -64,10 +66,10 @@ where
             return Err(Refused::Absent(item));
         };
         if !self.is_level(slot, &item, meter) {
-            let place = Sorted::<M>::place_of_slot(&self.map, &self.order, slot, meter);
+            let place = place_of_slot(&self.map, &self.order, slot, meter);
             return match self.map.rekey_at(slot, item, costs) {
                 Ok(gone) => {
-                    Sorted::<M>::resettle(&self.map, &mut self.order, place, slot, meter);
+                    resettle(&self.map, &mut self.order, place, slot, meter);
                     Ok(gone)
                 }
                 Err(item) => Err(Refused::Conflict(item)),

@@ -1,16 +1,18 @@
 //! Removing the item that a key finds, and that of a slot.
-ghost use Rattle.std.specs.Prelude.{◌≡◌, ℕ, ◌+◌, ◌*◌, ◌^◌, ◌<◌, ◌≤◌, [], ◌∷◌, not, filter, length, map, None, Some, IfNone, IsPermutation};
+ghost use Rattle.std.specs.Prelude.{◌≡◌, ◌+◌, ◌≤◌, [], ◌∷◌, not, filter, length, map, None, Some, IfNone, IsPermutation};
 ghost use Rattle.iddqd_store.specs.Bag.{IsOnly};
 ghost use Rattle.iddqd_store.specs.Map.{Loses};
 ghost use Rattle.iddqd_store.specs.Rank.{walks_within};
 ghost use Rattle.iddqd_store.specs.Slots.{get, IsLive, Updates};
-ghost use Rattle.iddqd_sorted.specs.Items.{items, bag, by_sort};
+ghost use Rattle.iddqd_sorted.specs.Items.{items, bag};
 ghost use Rattle.iddqd_sorted.specs.Keyed.{RemovingCosts};
 ghost use Rattle.iddqd_sorted.specs.Ordered.{IsAscending};
 ghost use Rattle.iddqd_sorted.specs.Overwriting.{map_of};
+ghost use Rattle.iddqd_order.specs.Search.{ComparesWithin};
 
 use super::Sorted;
-use crate::item::Sortable;
+use super::settle::place_of_slot;
+use crate::item::{SortOrder, Sortable};
 use iddqd_store::{Costs, FindsBy, ItemIndex, Meter, Query, SlotMap};
 
 impl<M: SlotMap> Sorted<M>
@@ -36,14 +38,14 @@ where
         ensures capacity { self.new.capacity ≡ self.old.capacity }
         ensures builder { self.new.builder ≡ self.old.builder }
         ensures absent { IfNone result (self.new ≡ self.old) }
-        ensures asked { (r : ℕ) → length (items self.old) < 4 ^ r → meter.new ≤ meter.old + (3 * r + 19) }
+        ensures asked { ComparesWithin 3 19 (length (items self.old)) meter.old meter.new }
         ensures costs { RemovingCosts (⟦<M as FindsBy<R>>⟧.key_hash self.old.builder) (bag self.old) self.old.capacity
             (M.hash_of self.old.builder (Q.hash_input query)) (map (λ _. 1) M.ranks) result costs.old costs.new }
     {
         let Some((slot, hash)) = self.map.slot_by(query, costs) else {
             return None;
         };
-        let place = Sorted::<M>::place_of_slot(&self.map, &self.order, slot, meter);
+        let place = place_of_slot(&self.map, &self.order, slot, meter);
         // The map goes first: it may hash keys, which runs code of the caller, and the order does not.
         let gone = self.map.remove_by(slot, hash, &mut costs.probed);
         let _ = self.order.remove(place);
@@ -63,11 +65,11 @@ where
         ensures updates { Updates self.old.slots self.new.slots slot None }
         ensures loses { Loses (map_of self.old) (result ∷ []) (map_of self.new) }
         ensures left { IsPermutation (items self.old) (result ∷ items self.new) }
-        ensures ascending { IsAscending (by_sort M.Item.sort_key M.Item.SortKey.cmp M.first_key M.FirstKey.cmp) (items self.new) }
-        ensures asked { (r : ℕ) → length (bag self.old) < 4 ^ r → meter.new ≤ meter.old + (3 * r + 19) }
+        ensures ascending { IsAscending ⟦<M as SortOrder>⟧.order (items self.new) }
+        ensures asked { ComparesWithin 3 19 (length (bag self.old)) meter.old meter.new }
         ensures probed { probed.new ≤ probed.old + walks_within (length (bag self.old)) (map (λ _. 1) M.ranks) }
     {
-        let place = Sorted::<M>::place_of_slot(&self.map, &self.order, slot, meter);
+        let place = place_of_slot(&self.map, &self.order, slot, meter);
         // The map goes first: it may hash keys, which runs code of the caller, and the order does not.
         let gone = self.map.remove_at(slot, probed);
         let _ = self.order.remove(place);

@@ -1,16 +1,18 @@
 //! Putting an item with the same keys and maybe another sort key in the place of one.
-ghost use Rattle.std.specs.Prelude.{◌≡◌, ℕ, ◌+◌, ◌*◌, ◌^◌, ◌<◌, ◌≤◌, true, false, length, Some, IfOk, IfErr, OnOk, OnErr, slice_index_or};
+ghost use Rattle.std.specs.Prelude.{◌≡◌, ℕ, ◌+◌, ◌<◌, true, false, length, Some, IfOk, IfErr, OnOk, OnErr, slice_index_or};
 ghost use Rattle.std.specs.List.{list_any, remove};
 ghost use Rattle.std.specs.Ordering.{is_eq};
 ghost use Rattle.iddqd_store.specs.Bag.{IsOnly, agrees};
 ghost use Rattle.iddqd_store.specs.SlotMap.{SearchesFirst};
 ghost use Rattle.iddqd_store.specs.Slots.{get, IsLive};
 ghost use Rattle.iddqd_sorted.specs.Inserts.{Replaces};
-ghost use Rattle.iddqd_sorted.specs.Items.{items, bag, by_sort, with_item};
+ghost use Rattle.iddqd_sorted.specs.Items.{items, bag, with_item};
 ghost use Rattle.iddqd_sorted.specs.Keeping.{ComparesOnceIf, SharePlace};
+ghost use Rattle.iddqd_order.specs.Search.{ComparesWithin};
 
 use super::Sorted;
-use crate::item::Sortable;
+use super::settle::{place_of_slot, resettle};
+use crate::item::{SortOrder, Sortable};
 use iddqd_store::{Costs, ItemIndex, Meter, SlotMap};
 use std::cmp::Ordering;
 
@@ -30,7 +32,7 @@ where
     /// `sessions.replace(session.seen_at(now))`
     pub fn replace(&mut self, item: M::Item) -> Result<M::Item, M::Item>
         ensures replaced { IfOk result (λ x. IsOnly (agrees M.ranks item) (items self.old) (Some x)) }
-        ensures replaces { OnOk result (Replaces M.ranks (by_sort M.Item.sort_key M.Item.SortKey.cmp M.first_key M.FirstKey.cmp) self.old item self.new) }
+        ensures replaces { OnOk result (Replaces M.ranks ⟦<M as SortOrder>⟧.order self.old item self.new) }
         ensures handed_back { IfErr result (λ x. x ≡ item) }
         ensures unchanged { OnErr result (self.new ≡ self.old) }
         ensures reason { OnErr result (list_any (agrees M.ranks item) (items self.old) ≡ false) }
@@ -48,14 +50,14 @@ where
         meter: &mut Meter,
     ) -> Result<M::Item, M::Item>
         ensures replaced { IfOk result (λ x. IsOnly (agrees M.ranks item) (items self.old) (Some x)) }
-        ensures replaces { OnOk result (Replaces M.ranks (by_sort M.Item.sort_key M.Item.SortKey.cmp M.first_key M.FirstKey.cmp) self.old item self.new) }
+        ensures replaces { OnOk result (Replaces M.ranks ⟦<M as SortOrder>⟧.order self.old item self.new) }
         ensures handed_back { IfErr result (λ x. x ≡ item) }
         ensures unchanged { OnErr result (self.new ≡ self.old) }
         ensures reason { OnErr result (list_any (agrees M.ranks item) (items self.old) ≡ false) }
-        ensures asked { (r : ℕ) → length (items self.old) < 4 ^ r → meter.new ≤ meter.old + (6 * r + 40) }
+        ensures asked { ComparesWithin 6 40 (length (items self.old)) meter.old meter.new }
         // If the sort key stays, one comparison is all.
         ensures asked_once { IfOk result (λ x. ComparesOnceIf
-            (SharePlace (by_sort M.Item.sort_key M.Item.SortKey.cmp M.first_key M.FirstKey.cmp) x item) meter.old meter.new) }
+            (SharePlace ⟦<M as SortOrder>⟧.order x item) meter.old meter.new) }
         ensures costs { SearchesFirst (M.hashes self.old.builder) (bag self.old) self.old.capacity item costs.old costs.new }
     {
         match self.map.slot_of_all(&item, costs) {
@@ -71,13 +73,13 @@ where
         requires same_keys { (x : M.Item) → get self.old.slots slot ≡ Some x → agrees M.ranks x item ≡ true }
         ensures value { get self.old.slots slot ≡ Some result }
         ensures puts { (i : ℕ) × (i < length (items self.old)) × ((d : M.Item) → result ≡ slice_index_or (items self.old) i d)
-            × (items self.new ≡ with_item (by_sort M.Item.sort_key M.Item.SortKey.cmp M.first_key M.FirstKey.cmp)
+            × (items self.new ≡ with_item ⟦<M as SortOrder>⟧.order
             (remove (items self.old) i) item) }
         ensures capacity { self.new.capacity ≡ self.old.capacity }
         ensures builder { self.new.builder ≡ self.old.builder }
-        ensures asked { (r : ℕ) → length (items self.old) < 4 ^ r → meter.new ≤ meter.old + (6 * r + 40) }
+        ensures asked { ComparesWithin 6 40 (length (items self.old)) meter.old meter.new }
         ensures asked_once { ComparesOnceIf
-            (SharePlace (by_sort M.Item.sort_key M.Item.SortKey.cmp M.first_key M.FirstKey.cmp) result item) meter.old meter.new }
+            (SharePlace ⟦<M as SortOrder>⟧.order result item) meter.old meter.new }
     {
         if self.is_level(slot, &item, meter) {
             self.put_level(slot, item)
@@ -91,7 +93,7 @@ where
     pub(super) fn is_level(&self, slot: ItemIndex, item: &M::Item, meter: &mut Meter) -> bool
         requires live { IsLive self.now.slots slot }
         ensures value { (x : M.Item) → get self.now.slots slot ≡ Some x
-            → result ≡ is_eq (by_sort M.Item.sort_key M.Item.SortKey.cmp M.first_key M.FirstKey.cmp x item.now) }
+            → result ≡ is_eq (⟦<M as SortOrder>⟧.order x item.now) }
         ensures asked { meter.new ≡ meter.old + 1 }
     {
         meter.tick();
@@ -111,10 +113,10 @@ where
         requires live { IsLive self.old.slots slot }
         requires same_keys { (x : M.Item) → get self.old.slots slot ≡ Some x → agrees M.ranks x item ≡ true }
         requires level { (x : M.Item) → get self.old.slots slot ≡ Some x
-            → is_eq (by_sort M.Item.sort_key M.Item.SortKey.cmp M.first_key M.FirstKey.cmp x item) ≡ true }
+            → is_eq (⟦<M as SortOrder>⟧.order x item) ≡ true }
         ensures value { get self.old.slots slot ≡ Some result }
         ensures puts { (i : ℕ) × (i < length (items self.old)) × ((d : M.Item) → result ≡ slice_index_or (items self.old) i d)
-            × (items self.new ≡ with_item (by_sort M.Item.sort_key M.Item.SortKey.cmp M.first_key M.FirstKey.cmp)
+            × (items self.new ≡ with_item ⟦<M as SortOrder>⟧.order
             (remove (items self.old) i) item) }
         ensures capacity { self.new.capacity ≡ self.old.capacity }
         ensures builder { self.new.builder ≡ self.old.builder }
@@ -129,15 +131,15 @@ where
         requires same_keys { (x : M.Item) → get self.old.slots slot ≡ Some x → agrees M.ranks x item ≡ true }
         ensures value { get self.old.slots slot ≡ Some result }
         ensures puts { (i : ℕ) × (i < length (items self.old)) × ((d : M.Item) → result ≡ slice_index_or (items self.old) i d)
-            × (items self.new ≡ with_item (by_sort M.Item.sort_key M.Item.SortKey.cmp M.first_key M.FirstKey.cmp)
+            × (items self.new ≡ with_item ⟦<M as SortOrder>⟧.order
             (remove (items self.old) i) item) }
         ensures capacity { self.new.capacity ≡ self.old.capacity }
         ensures builder { self.new.builder ≡ self.old.builder }
-        ensures asked { (r : ℕ) → length (items self.old) < 4 ^ r → meter.new ≤ meter.old + (6 * r + 37) }
+        ensures asked { ComparesWithin 6 37 (length (items self.old)) meter.old meter.new }
     {
-        let place = Sorted::<M>::place_of_slot(&self.map, &self.order, slot, meter);
+        let place = place_of_slot(&self.map, &self.order, slot, meter);
         let gone = self.map.replace_at(slot, item);
-        Sorted::<M>::resettle(&self.map, &mut self.order, place, slot, meter);
+        resettle(&self.map, &mut self.order, place, slot, meter);
         gone
     }
 }

@@ -1,14 +1,16 @@
 //! Updating an item by a closure, which is called with the item and returns its new data.
-ghost use Rattle.std.specs.Prelude.{◌≡◌, ℕ, ◌+◌, ◌*◌, ◌^◌, ◌<◌, ◌≤◌, true, false, length, Some};
+ghost use Rattle.std.specs.Prelude.{◌≡◌, true, false, length, Some};
 ghost use Rattle.std.specs.Fn.{FnOnceReturnsAt, FnOnceTakesAt};
 ghost use Rattle.std.specs.List.{list_any};
 ghost use Rattle.iddqd_store.specs.Bag.{IsOnly};
-ghost use Rattle.iddqd_sorted.specs.Items.{items, by_sort};
+ghost use Rattle.iddqd_sorted.specs.Items.{items};
 ghost use Rattle.iddqd_sorted.specs.Keeping.{ComparesOnceIf, KeepsSortKey};
 ghost use Rattle.iddqd_sorted.specs.Keyed.{MapsOne, StoresOne};
+ghost use Rattle.iddqd_order.specs.Search.{ComparesWithin};
 
 use super::Sorted;
-use crate::item::Sortable;
+use super::settle::resettle_changed;
+use crate::item::{SortOrder, Sortable};
 use iddqd_store::{Costs, FindsBy, Meter, Query, SlotMap, StoresData};
 
 impl<M: SlotMap> Sorted<M>
@@ -38,15 +40,15 @@ where
             → M.FirstKey.eq (M.first_key (⟦<M as StoresData>⟧.put x d)) (M.first_key x) ≡ true }
         ensures any_found { result ≡ list_any (λ y. Q.stands_for query (⟦<M as FindsBy<R>>⟧.key y)) (items self.old) }
         ensures stores { result ≡ true → StoresOne (FnOnceReturnsAt F.FnOnce f) ⟦<M as StoresData>⟧.put
-            (by_sort M.Item.sort_key M.Item.SortKey.cmp M.first_key M.FirstKey.cmp)
+            ⟦<M as SortOrder>⟧.order
             (λ y. Q.stands_for query (⟦<M as FindsBy<R>>⟧.key y)) (items self.old) (items self.new) }
         ensures maps { MapsOne (FnOnceReturnsAt F.FnOnce f) ⟦<M as StoresData>⟧.put
-            (by_sort M.Item.sort_key M.Item.SortKey.cmp M.first_key M.FirstKey.cmp)
+            ⟦<M as SortOrder>⟧.order
             (λ y. Q.stands_for query (⟦<M as FindsBy<R>>⟧.key y)) (items self.old) (items self.new) }
         ensures absent { result ≡ false → self.new ≡ self.old }
         ensures capacity { self.new.capacity ≡ self.old.capacity }
         ensures builder { self.new.builder ≡ self.old.builder }
-        ensures asked { (r : ℕ) → length (items self.old) < 4 ^ r → meter.new ≤ meter.old + (6 * r + 40) }
+        ensures asked { ComparesWithin 6 40 (length (items self.old)) meter.old meter.new }
         // If the sort key stays, one comparison is all.
         ensures asked_once { ComparesOnceIf (KeepsSortKey (FnOnceReturnsAt F.FnOnce f) ⟦<M as StoresData>⟧.put M.Item.sort_key M.Item.SortKey.cmp
             (λ y. Q.stands_for query (⟦<M as FindsBy<R>>⟧.key y)) (items self.old)) meter.old meter.new }
@@ -57,7 +59,7 @@ where
         let before = self.map.slots().item(slot).sort_key();
         let d = f(self.map.slots().item(slot));
         self.map.store_at(slot, d);
-        Sorted::<M>::resettle_changed(&self.map, &mut self.order, slot, before, meter);
+        resettle_changed(&self.map, &mut self.order, slot, before, meter);
         true
     }
 }

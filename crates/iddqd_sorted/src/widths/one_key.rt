@@ -1,4 +1,6 @@
 //! Items with one key.
+//!
+//! Made by tests/widths from crates/iddqd_sorted/src/widths/two_keys.rt: change that file.
 ghost use Rattle.std.specs.Prelude.{[], ◌≡◌, true, false, not, filter, option_copied, Some, IfNone, IfOk, IfErr, OnOk, OnErr};
 ghost use Rattle.std.specs.Fn.{FnOnceReturnsAt, FnOnceTakesAt};
 ghost use Rattle.std.specs.List.{list_any};
@@ -42,10 +44,11 @@ where
         self.inside().contains_key(query)
     }
 
-    /// Removes the item with the key that the query stands for, and returns it, or `None` if there is none. The capacity stays.
+    /// Removes the item with the key that the query stands for, and returns it, or `None` if there is none. The
+    /// capacity stays.
     ///
-    /// The call hashes the query and searches for it once, hashes each other key of the item once, and walks once through each
-    /// table. Among fewer than `4 ^ r` items it compares at most `3 * r + 19` sort keys. It allocates no memory.
+    /// The call hashes the query and searches for it once, and walks once through the table. Among fewer than `4 ^ r`
+    /// items it compares at most `3 * r + 19` sort keys. It allocates no memory.
     pub fn remove<Q: Query<T::Key>>(&mut self, query: Q) -> Option<T>
         ensures taken { IsOnly (has T.IdHashItem Q.stands_for query) (items self.old) result }
         ensures rest { items self.new ≡ filter (λ x. not (has T.IdHashItem Q.stands_for query x)) (items self.old) }
@@ -56,19 +59,19 @@ where
         self.remove_by::<First, Q>(query, &mut Costs::new(), &mut Meter::new())
     }
 
-    /// Puts an item in the place of the one with the key that the query stands for, and returns the latter. The new item may have
-    /// other keys and another sort key. The error has the new item, and the map is as it was: `Absent` if no item has the key asked
-    /// for, and `Duplicate` if some other item conflicts with the new one.
+    /// Puts an item in the place of the one with the key that the query stands for, and returns the latter. The new
+    /// item may have other keys and another sort key. The error has the new item, and the map is as it was: `Absent` if
+    /// no item has the key asked for, and `Duplicate` if some other item conflicts with the new one.
     ///
-    /// The call hashes the query and searches for it once, and hashes each key of the new item and searches for it once. It also
-    /// hashes those keys of the old item that the new one does not have. If the sort key and the key stay, it compares this sort
-    /// key once, and nothing moves in the order. Otherwise, among fewer than `4 ^ r` items, it compares at most `6 * r + 40` sort
-    /// keys. It allocates no memory, and the capacity stays.
+    /// The call hashes the query and searches for it once, and hashes the key of the new item and searches for it once.
+    /// It also hashes the key of the old item, if the new one has another. If the sort key and the key stay, it
+    /// compares this sort key once, and nothing moves in the order. Otherwise, among fewer than `4 ^ r` items, it
+    /// compares at most `6 * r + 40` sort keys. It allocates no memory, and the capacity stays.
     pub fn rekey<Q: Query<T::Key>>(&mut self, query: Q, item: T) -> Result<T, NotReplaced<T>>
         ensures found { IfOk result (λ x. IsOnly (has T.IdHashItem Q.stands_for query) (items self.old) (Some x)) }
         ensures puts { OnOk result (items self.new ≡ with_item (by_sort T.sort_key T.SortKey.cmp T.key T.Key.cmp)
             (filter (λ y. not (has T.IdHashItem Q.stands_for query y)) (items self.old)) item) }
-        // None of the others has one of its keys, so that no third item leaves.
+        // None of the others conflicts with it, so that no third item leaves.
         ensures free { OnOk result (conflicts_of ⟦<T as Ranked>⟧.ranks
             (filter (λ y. not (has T.IdHashItem Q.stands_for query y)) (items self.old)) item ≡ []) }
         ensures capacity { self.new.capacity ≡ self.old.capacity }
@@ -90,13 +93,13 @@ impl<T: IdHashItemMut + Sortable, S: BuildHasher> Sorted<IdHashMap<T, S>>
 where
     T::Key: Ord,
 {
-    /// Calls `f` with the item with the key that the query stands for, stores what it returns as the item's data, and moves the item
-    /// to the place of its sort key, which may have changed. Returns whether there is such an item. If not, `f` is not called, and
-    /// nothing changes.
+    /// Calls `f` with the item with the key that the query stands for, stores what it returns as the item's data, and
+    /// moves the item to the place of its sort key, which may have changed. Returns whether there is such an item. If
+    /// not, `f` is not called, and nothing changes.
     ///
-    /// The call hashes the query and searches for it once. If the sort key stays, it compares this key once, and nothing moves in the
-    /// order. Otherwise, among fewer than `4 ^ r` items, it compares at most `6 * r + 40` sort keys. It allocates no memory, and writes
-    /// no table.
+    /// The call hashes the query and searches for it once. If the sort key stays, it compares this key once, and
+    /// nothing moves in the order. Otherwise, among fewer than `4 ^ r` items, it compares at most `6 * r + 40` sort
+    /// keys. It allocates no memory, and writes no table.
     ///
     /// `sessions.update(&key, |session| now)`
     pub fn update<Q: Query<T::Key>, F: FnOnce(&T) -> T::Data>(&mut self, query: Q, f: F) -> bool

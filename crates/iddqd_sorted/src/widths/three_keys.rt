@@ -1,4 +1,6 @@
 //! Items with three keys.
+//!
+//! Made by tests/widths from crates/iddqd_sorted/src/widths/two_keys.rt: change that file.
 ghost use Rattle.std.specs.Prelude.{[], ◌≡◌, true, false, not, filter, option_copied, Some, IfNone, IfOk, IfErr, OnOk, OnErr};
 ghost use Rattle.std.specs.Fn.{FnOnceReturnsAt, FnOnceTakesAt};
 ghost use Rattle.std.specs.List.{list_any};
@@ -28,21 +30,24 @@ impl<T: TriHashItem + Sortable, S: BuildHasher> Sorted<TriHashMap<T, S>>
 where
     T::K1: Ord,
 {
-    /// Returns the item with the first key that the query stands for, or `None`. It costs what it costs on the map inside.
+    /// Returns the item with the first key that the query stands for, or `None`. It costs what it costs on the map
+    /// inside.
     pub fn get1<Q: Query<T::K1>>(&self, query: Q) -> Option<&T>
         ensures { IsOnly (has1 T.TriHashItem Q.stands_for query) (items self.now) (option_copied result) }
     {
         self.inside().get1(query)
     }
 
-    /// Returns the item with the second key that the query stands for, or `None`. It costs what it costs on the map inside.
+    /// Returns the item with the second key that the query stands for, or `None`. It costs what it costs on the map
+    /// inside.
     pub fn get2<Q: Query<T::K2>>(&self, query: Q) -> Option<&T>
         ensures { IsOnly (has2 T.TriHashItem Q.stands_for query) (items self.now) (option_copied result) }
     {
         self.inside().get2(query)
     }
 
-    /// Returns the item with the third key that the query stands for, or `None`. It costs what it costs on the map inside.
+    /// Returns the item with the third key that the query stands for, or `None`. It costs what it costs on the map
+    /// inside.
     pub fn get3<Q: Query<T::K3>>(&self, query: Q) -> Option<&T>
         ensures { IsOnly (has3 T.TriHashItem Q.stands_for query) (items self.now) (option_copied result) }
     {
@@ -70,10 +75,12 @@ where
         self.inside().contains_key3(query)
     }
 
-    /// Removes the item with the first key that the query stands for, and returns it, or `None` if there is none. The capacity stays.
+    /// Removes the item with the first key that the query stands for, and returns it, or `None` if there is none. The
+    /// capacity stays.
     ///
-    /// The call hashes the query and searches for it once, hashes each other key of the item once, and walks once through each
-    /// table. Among fewer than `4 ^ r` items it compares at most `3 * r + 19` sort keys. It allocates no memory.
+    /// The call hashes the query and searches for it once, hashes each other key of the item once, and walks once
+    /// through each table. Among fewer than `4 ^ r` items it compares at most `3 * r + 19` sort keys. It allocates no
+    /// memory.
     pub fn remove1<Q: Query<T::K1>>(&mut self, query: Q) -> Option<T>
         ensures taken { IsOnly (has1 T.TriHashItem Q.stands_for query) (items self.old) result }
         ensures rest { items self.new ≡ filter (λ x. not (has1 T.TriHashItem Q.stands_for query x)) (items self.old) }
@@ -84,10 +91,12 @@ where
         self.remove_by::<First, Q>(query, &mut Costs::new(), &mut Meter::new())
     }
 
-    /// Removes the item with the second key that the query stands for, and returns it, or `None` if there is none. The capacity stays.
+    /// Removes the item with the second key that the query stands for, and returns it, or `None` if there is none. The
+    /// capacity stays.
     ///
-    /// The call hashes the query and searches for it once, hashes each other key of the item once, and walks once through each
-    /// table. Among fewer than `4 ^ r` items it compares at most `3 * r + 19` sort keys. It allocates no memory.
+    /// The call hashes the query and searches for it once, hashes each other key of the item once, and walks once
+    /// through each table. Among fewer than `4 ^ r` items it compares at most `3 * r + 19` sort keys. It allocates no
+    /// memory.
     pub fn remove2<Q: Query<T::K2>>(&mut self, query: Q) -> Option<T>
         ensures taken { IsOnly (has2 T.TriHashItem Q.stands_for query) (items self.old) result }
         ensures rest { items self.new ≡ filter (λ x. not (has2 T.TriHashItem Q.stands_for query x)) (items self.old) }
@@ -98,10 +107,12 @@ where
         self.remove_by::<Second, Q>(query, &mut Costs::new(), &mut Meter::new())
     }
 
-    /// Removes the item with the third key that the query stands for, and returns it, or `None` if there is none. The capacity stays.
+    /// Removes the item with the third key that the query stands for, and returns it, or `None` if there is none. The
+    /// capacity stays.
     ///
-    /// The call hashes the query and searches for it once, hashes each other key of the item once, and walks once through each
-    /// table. Among fewer than `4 ^ r` items it compares at most `3 * r + 19` sort keys. It allocates no memory.
+    /// The call hashes the query and searches for it once, hashes each other key of the item once, and walks once
+    /// through each table. Among fewer than `4 ^ r` items it compares at most `3 * r + 19` sort keys. It allocates no
+    /// memory.
     pub fn remove3<Q: Query<T::K3>>(&mut self, query: Q) -> Option<T>
         ensures taken { IsOnly (has3 T.TriHashItem Q.stands_for query) (items self.old) result }
         ensures rest { items self.new ≡ filter (λ x. not (has3 T.TriHashItem Q.stands_for query x)) (items self.old) }
@@ -112,19 +123,19 @@ where
         self.remove_by::<Third, Q>(query, &mut Costs::new(), &mut Meter::new())
     }
 
-    /// Puts an item in the place of the one with the first key that the query stands for, and returns the latter. The new item may have
-    /// other keys and another sort key. The error has the new item, and the map is as it was: `Absent` if no item has the key asked
-    /// for, and `Duplicate` if some other item conflicts with the new one.
+    /// Puts an item in the place of the one with the first key that the query stands for, and returns the latter. The
+    /// new item may have other keys and another sort key. The error has the new item, and the map is as it was:
+    /// `Absent` if no item has the key asked for, and `Duplicate` if some other item conflicts with the new one.
     ///
-    /// The call hashes the query and searches for it once, and hashes each key of the new item and searches for it once. It also
-    /// hashes those keys of the old item that the new one does not have. If the sort key and the first key stay, it compares this sort
-    /// key once, and nothing moves in the order. Otherwise, among fewer than `4 ^ r` items, it compares at most `6 * r + 40` sort
-    /// keys. It allocates no memory, and the capacity stays.
+    /// The call hashes the query and searches for it once, and hashes each key of the new item and searches for it
+    /// once. It also hashes those keys of the old item that the new one does not have. If the sort key and the first
+    /// key stay, it compares this sort key once, and nothing moves in the order. Otherwise, among fewer than `4 ^ r`
+    /// items, it compares at most `6 * r + 40` sort keys. It allocates no memory, and the capacity stays.
     pub fn rekey1<Q: Query<T::K1>>(&mut self, query: Q, item: T) -> Result<T, NotReplaced<T>>
         ensures found { IfOk result (λ x. IsOnly (has1 T.TriHashItem Q.stands_for query) (items self.old) (Some x)) }
         ensures puts { OnOk result (items self.new ≡ with_item (by_sort T.sort_key T.SortKey.cmp T.key1 T.K1.cmp)
             (filter (λ y. not (has1 T.TriHashItem Q.stands_for query y)) (items self.old)) item) }
-        // None of the others has one of its keys, so that no third item leaves.
+        // None of the others conflicts with it, so that no third item leaves.
         ensures free { OnOk result (conflicts_of ⟦<T as Ranked>⟧.ranks
             (filter (λ y. not (has1 T.TriHashItem Q.stands_for query y)) (items self.old)) item ≡ []) }
         ensures capacity { self.new.capacity ≡ self.old.capacity }
@@ -141,19 +152,19 @@ where
         }
     }
 
-    /// Puts an item in the place of the one with the second key that the query stands for, and returns the latter. The new item may have
-    /// other keys and another sort key. The error has the new item, and the map is as it was: `Absent` if no item has the key asked
-    /// for, and `Duplicate` if some other item conflicts with the new one.
+    /// Puts an item in the place of the one with the second key that the query stands for, and returns the latter. The
+    /// new item may have other keys and another sort key. The error has the new item, and the map is as it was:
+    /// `Absent` if no item has the key asked for, and `Duplicate` if some other item conflicts with the new one.
     ///
-    /// The call hashes the query and searches for it once, and hashes each key of the new item and searches for it once. It also
-    /// hashes those keys of the old item that the new one does not have. If the sort key and the first key stay, it compares this sort
-    /// key once, and nothing moves in the order. Otherwise, among fewer than `4 ^ r` items, it compares at most `6 * r + 40` sort
-    /// keys. It allocates no memory, and the capacity stays.
+    /// The call hashes the query and searches for it once, and hashes each key of the new item and searches for it
+    /// once. It also hashes those keys of the old item that the new one does not have. If the sort key and the first
+    /// key stay, it compares this sort key once, and nothing moves in the order. Otherwise, among fewer than `4 ^ r`
+    /// items, it compares at most `6 * r + 40` sort keys. It allocates no memory, and the capacity stays.
     pub fn rekey2<Q: Query<T::K2>>(&mut self, query: Q, item: T) -> Result<T, NotReplaced<T>>
         ensures found { IfOk result (λ x. IsOnly (has2 T.TriHashItem Q.stands_for query) (items self.old) (Some x)) }
         ensures puts { OnOk result (items self.new ≡ with_item (by_sort T.sort_key T.SortKey.cmp T.key1 T.K1.cmp)
             (filter (λ y. not (has2 T.TriHashItem Q.stands_for query y)) (items self.old)) item) }
-        // None of the others has one of its keys, so that no third item leaves.
+        // None of the others conflicts with it, so that no third item leaves.
         ensures free { OnOk result (conflicts_of ⟦<T as Ranked>⟧.ranks
             (filter (λ y. not (has2 T.TriHashItem Q.stands_for query y)) (items self.old)) item ≡ []) }
         ensures capacity { self.new.capacity ≡ self.old.capacity }
@@ -170,19 +181,19 @@ where
         }
     }
 
-    /// Puts an item in the place of the one with the third key that the query stands for, and returns the latter. The new item may have
-    /// other keys and another sort key. The error has the new item, and the map is as it was: `Absent` if no item has the key asked
-    /// for, and `Duplicate` if some other item conflicts with the new one.
+    /// Puts an item in the place of the one with the third key that the query stands for, and returns the latter. The
+    /// new item may have other keys and another sort key. The error has the new item, and the map is as it was:
+    /// `Absent` if no item has the key asked for, and `Duplicate` if some other item conflicts with the new one.
     ///
-    /// The call hashes the query and searches for it once, and hashes each key of the new item and searches for it once. It also
-    /// hashes those keys of the old item that the new one does not have. If the sort key and the first key stay, it compares this sort
-    /// key once, and nothing moves in the order. Otherwise, among fewer than `4 ^ r` items, it compares at most `6 * r + 40` sort
-    /// keys. It allocates no memory, and the capacity stays.
+    /// The call hashes the query and searches for it once, and hashes each key of the new item and searches for it
+    /// once. It also hashes those keys of the old item that the new one does not have. If the sort key and the first
+    /// key stay, it compares this sort key once, and nothing moves in the order. Otherwise, among fewer than `4 ^ r`
+    /// items, it compares at most `6 * r + 40` sort keys. It allocates no memory, and the capacity stays.
     pub fn rekey3<Q: Query<T::K3>>(&mut self, query: Q, item: T) -> Result<T, NotReplaced<T>>
         ensures found { IfOk result (λ x. IsOnly (has3 T.TriHashItem Q.stands_for query) (items self.old) (Some x)) }
         ensures puts { OnOk result (items self.new ≡ with_item (by_sort T.sort_key T.SortKey.cmp T.key1 T.K1.cmp)
             (filter (λ y. not (has3 T.TriHashItem Q.stands_for query y)) (items self.old)) item) }
-        // None of the others has one of its keys, so that no third item leaves.
+        // None of the others conflicts with it, so that no third item leaves.
         ensures free { OnOk result (conflicts_of ⟦<T as Ranked>⟧.ranks
             (filter (λ y. not (has3 T.TriHashItem Q.stands_for query y)) (items self.old)) item ≡ []) }
         ensures capacity { self.new.capacity ≡ self.old.capacity }
@@ -204,13 +215,13 @@ impl<T: TriHashItemMut + Sortable, S: BuildHasher> Sorted<TriHashMap<T, S>>
 where
     T::K1: Ord,
 {
-    /// Calls `f` with the item with the first key that the query stands for, stores what it returns as the item's data, and moves the item
-    /// to the place of its sort key, which may have changed. Returns whether there is such an item. If not, `f` is not called, and
-    /// nothing changes.
+    /// Calls `f` with the item with the first key that the query stands for, stores what it returns as the item's data,
+    /// and moves the item to the place of its sort key, which may have changed. Returns whether there is such an item.
+    /// If not, `f` is not called, and nothing changes.
     ///
-    /// The call hashes the query and searches for it once. If the sort key stays, it compares this key once, and nothing moves in the
-    /// order. Otherwise, among fewer than `4 ^ r` items, it compares at most `6 * r + 40` sort keys. It allocates no memory, and writes
-    /// no table.
+    /// The call hashes the query and searches for it once. If the sort key stays, it compares this key once, and
+    /// nothing moves in the order. Otherwise, among fewer than `4 ^ r` items, it compares at most `6 * r + 40` sort
+    /// keys. It allocates no memory, and writes no table.
     ///
     /// `sessions.update1(&key, |session| now)`
     pub fn update1<Q: Query<T::K1>, F: FnOnce(&T) -> T::Data>(&mut self, query: Q, f: F) -> bool
@@ -233,13 +244,13 @@ where
         self.update_by::<First, Q, F>(query, f, &mut Costs::new(), &mut Meter::new())
     }
 
-    /// Calls `f` with the item with the second key that the query stands for, stores what it returns as the item's data, and moves the item
-    /// to the place of its sort key, which may have changed. Returns whether there is such an item. If not, `f` is not called, and
-    /// nothing changes.
+    /// Calls `f` with the item with the second key that the query stands for, stores what it returns as the item's
+    /// data, and moves the item to the place of its sort key, which may have changed. Returns whether there is such an
+    /// item. If not, `f` is not called, and nothing changes.
     ///
-    /// The call hashes the query and searches for it once. If the sort key stays, it compares this key once, and nothing moves in the
-    /// order. Otherwise, among fewer than `4 ^ r` items, it compares at most `6 * r + 40` sort keys. It allocates no memory, and writes
-    /// no table.
+    /// The call hashes the query and searches for it once. If the sort key stays, it compares this key once, and
+    /// nothing moves in the order. Otherwise, among fewer than `4 ^ r` items, it compares at most `6 * r + 40` sort
+    /// keys. It allocates no memory, and writes no table.
     ///
     /// `sessions.update2(&key, |session| now)`
     pub fn update2<Q: Query<T::K2>, F: FnOnce(&T) -> T::Data>(&mut self, query: Q, f: F) -> bool
@@ -262,13 +273,13 @@ where
         self.update_by::<Second, Q, F>(query, f, &mut Costs::new(), &mut Meter::new())
     }
 
-    /// Calls `f` with the item with the third key that the query stands for, stores what it returns as the item's data, and moves the item
-    /// to the place of its sort key, which may have changed. Returns whether there is such an item. If not, `f` is not called, and
-    /// nothing changes.
+    /// Calls `f` with the item with the third key that the query stands for, stores what it returns as the item's data,
+    /// and moves the item to the place of its sort key, which may have changed. Returns whether there is such an item.
+    /// If not, `f` is not called, and nothing changes.
     ///
-    /// The call hashes the query and searches for it once. If the sort key stays, it compares this key once, and nothing moves in the
-    /// order. Otherwise, among fewer than `4 ^ r` items, it compares at most `6 * r + 40` sort keys. It allocates no memory, and writes
-    /// no table.
+    /// The call hashes the query and searches for it once. If the sort key stays, it compares this key once, and
+    /// nothing moves in the order. Otherwise, among fewer than `4 ^ r` items, it compares at most `6 * r + 40` sort
+    /// keys. It allocates no memory, and writes no table.
     ///
     /// `sessions.update3(&key, |session| now)`
     pub fn update3<Q: Query<T::K3>, F: FnOnce(&T) -> T::Data>(&mut self, query: Q, f: F) -> bool
@@ -295,8 +306,10 @@ where
 impl<T> ExtendUniqueError<T, Rejected<T>> {
     /// Returns why the call failed: `Duplicate` if a key of the item is taken, otherwise `Memory`.
     pub fn reason(&self) -> InsertReason
-        ensures duplicate { result ≡ InsertReason.Duplicate → self.now.rejected.taken1 ≡ false → self.now.rejected.taken2 ≡ false → self.now.rejected.taken3 ≡ false → ⊥ }
-        ensures none_taken { result ≡ InsertReason.Memory → (self.now.rejected.taken1 ≡ false) × (self.now.rejected.taken2 ≡ false) × (self.now.rejected.taken3 ≡ false) }
+        ensures duplicate { result ≡ InsertReason.Duplicate → self.now.rejected.taken1 ≡ false
+            → self.now.rejected.taken2 ≡ false → self.now.rejected.taken3 ≡ false → ⊥ }
+        ensures none_taken { result ≡ InsertReason.Memory → (self.now.rejected.taken1 ≡ false) ×
+            (self.now.rejected.taken2 ≡ false) × (self.now.rejected.taken3 ≡ false) }
     {
         if !self.rejected.taken1 && !self.rejected.taken2 && !self.rejected.taken3 {
             InsertReason::Memory

@@ -96,7 +96,7 @@ where
         ensures found { IfOk result (λ x. IsOnly (has1 T.BiHashItem Q.stands_for query) (items self.old) (Some x)) }
         ensures puts { OnOk result (items self.new ≡ with_item (by_sort T.sort_key T.SortKey.cmp T.key1 T.K1.cmp)
             (filter (λ y. not (has1 T.BiHashItem Q.stands_for query y)) (items self.old)) item) }
-        // None of the others has one of its keys, so that no third item leaves.
+        // None of the others conflicts with it, so that no third item leaves.
         ensures free { OnOk result (conflicts_of ⟦<T as Ranked>⟧.ranks
             (filter (λ y. not (has1 T.BiHashItem Q.stands_for query y)) (items self.old)) item ≡ []) }
         ensures capacity { self.new.capacity ≡ self.old.capacity }
@@ -125,7 +125,7 @@ where
         ensures found { IfOk result (λ x. IsOnly (has2 T.BiHashItem Q.stands_for query) (items self.old) (Some x)) }
         ensures puts { OnOk result (items self.new ≡ with_item (by_sort T.sort_key T.SortKey.cmp T.key1 T.K1.cmp)
             (filter (λ y. not (has2 T.BiHashItem Q.stands_for query y)) (items self.old)) item) }
-        // None of the others has one of its keys, so that no third item leaves.
+        // None of the others conflicts with it, so that no third item leaves.
         ensures free { OnOk result (conflicts_of ⟦<T as Ranked>⟧.ranks
             (filter (λ y. not (has2 T.BiHashItem Q.stands_for query y)) (items self.old)) item ≡ []) }
         ensures capacity { self.new.capacity ≡ self.old.capacity }

@@ -151,7 +151,6 @@ const OF_SORTED: &[&str] = &[
     "pop_before",
     "drop_before",
     "group",
-    "between",
     "range",
     "replace",
     "inside",

@@ -63,18 +63,17 @@ of_map! {
         let (from, to) = (a.min(b), a.max(b));
         let (low, high) = (SortKey(from), SortKey(to));
         let of = |f: &dyn Fn(u64) -> bool| list.items.iter().filter(|it| f(sort_key(it.1))).copied().collect::<Vec<_>>();
-        match below(12) {
+        match below(11) {
             0 => check(call!(map.group(&low)), of(&|k| k == from)),
-            1 => check(call!(map.between(&low, &high)), of(&|k| from <= k && k < to)),
-            2 => check(call!(map.range(low..high)), of(&|k| from <= k && k < to)),
-            3 => check(call!(map.range(low..=high)), of(&|k| from <= k && k <= to)),
-            4 => check(call!(map.range(low..)), of(&|k| from <= k)),
-            5 => check(call!(map.range(..high)), of(&|k| k < to)),
-            6 => check(call!(map.range(..=high)), of(&|k| k <= to)),
-            7 => check(call!(map.range(..)), of(&|_| true)),
-            8 => check(call!(map.range((Excluded(low), Included(high)))), of(&|k| from < k && k <= to)),
-            9 => check(call!(map.range((Excluded(low), Unbounded))), of(&|k| from < k)),
-            10 => check(call!(map.iter()), list.items.clone()),
+            1 => check(call!(map.range(low..high)), of(&|k| from <= k && k < to)),
+            2 => check(call!(map.range(low..=high)), of(&|k| from <= k && k <= to)),
+            3 => check(call!(map.range(low..)), of(&|k| from <= k)),
+            4 => check(call!(map.range(..high)), of(&|k| k < to)),
+            5 => check(call!(map.range(..=high)), of(&|k| k <= to)),
+            6 => check(call!(map.range(..)), of(&|_| true)),
+            7 => check(call!(map.range((Excluded(low), Included(high)))), of(&|k| from < k && k <= to)),
+            8 => check(call!(map.range((Excluded(low), Unbounded))), of(&|k| from < k)),
+            9 => check(call!(map.iter()), list.items.clone()),
             _ => check(call!("for &", (&*map).into_iter()), list.items.clone()),
         }
     }

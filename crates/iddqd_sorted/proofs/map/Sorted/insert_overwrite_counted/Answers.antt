@@ -7,15 +7,10 @@ use Rattle.iddqd_store.proofs.RankLemmas.Placing.{placing}
 use Rattle.iddqd_sorted.specs.Items.{items, bag, by_sort, with_item}
 use Rattle.iddqd_sorted.proofs.Costs.{walks_none}
 use Rattle.iddqd_sorted.proofs.Finding.{all_others}
-use Rattle.iddqd_sorted.proofs.Overwriting.{is-overwritten, none_conflict}
+use Rattle.iddqd_sorted.proofs.Overwriting.{is-overwritten}
 use Rattle.iddqd_sorted.proofs.Sorting.{same_key, total}
 use Rattle.iddqd_sorted.proofs.map.Sorted.insert_overwrite_counted.Goals as goal
 use Rattle.iddqd_sorted.proofs.map.Sorted.insert_overwrite_counted.Goals.{in-Ok-insert_free, in-Err-insert_free}
-
--- something conflicts
-pub overwrite-requires-clause-some : goal.overwrite-requires-clause-some
-overwrite-requires-clause-some g c = λ none.
-    c.in-Err.ensures.conflict (none_conflict g.M.SlotMap.ranks (items c.args.self.now) c.args.item (sym c.in-Err.ensures.same_conflicts ∙ none))
 
 pub returns-in-Err-clause-overwrites : goal.returns-in-Err-clause-overwrites
 returns-in-Err-clause-overwrites g c =
@@ -42,13 +37,13 @@ pub returns-in-Err-clause-asked : goal.returns-in-Err-clause-asked
 returns-in-Err-clause-asked g c = λ r few.
     (let before = c.in-Err.ensures in
     let put = c.overwrite.ensures in
-    rw (put.displaced ∙ before.same_conflicts) at (put.asked r (omega (arith, few, length_permutation _ _ before.listed))))
+    rw (put.displaced ∙ before.finds.same_conflicts) at (put.asked r (omega (arith, few, length_permutation _ _ before.listed))))
 
 pub returns-in-Err-clause-costs : goal.returns-in-Err-clause-costs
 returns-in-Err-clause-costs g c =
     let each = rw (← c.costs.view_is) at c.free_places.ensures.costs in
     let put = c.overwrite.ensures in
-    placing each.answers _ each.searched (rw (put.displaced ∙ c.in-Err.ensures.same_conflicts) at put.probed)
+    placing each.answers _ each.searched (rw (put.displaced ∙ c.in-Err.ensures.finds.same_conflicts) at put.probed)
 
 pub returns-clause-displaced : goal.returns-clause-displaced
 returns-clause-displaced g c = elim c.match-insert_free.branch [

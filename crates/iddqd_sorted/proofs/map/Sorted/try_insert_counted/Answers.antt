@@ -9,11 +9,11 @@ use Rattle.iddqd_sorted.proofs.map.Sorted.try_insert_counted.Goals as goal
 use Rattle.iddqd_sorted.proofs.map.Sorted.try_insert_counted.Goals.{in-Ok-insert_free, in-Err-insert_free}
 
 pub returns-in-Err-clause-granted : goal.returns-in-Err-clause-granted
-returns-in-Err-clause-granted g c = λ free spare. absurd (c.in-Err.ensures.conflict free)
+returns-in-Err-clause-granted g c = λ free spare. absurd (c.in-Err.ensures.finds.conflict free)
 
 pub returns-in-Err-clause-reason : goal.returns-in-Err-clause-reason
 returns-in-Err-clause-reason g c =
-    rw (c.reject.ensures.flags, c.taken.ensures) (record { taken = c.in-Err.ensures.taken; full = λ none. absurd (c.in-Err.ensures.some none) })
+    rw (c.reject.ensures.flags, c.taken.ensures) (record { taken = c.in-Err.ensures.finds.taken; full = λ none. absurd (c.in-Err.ensures.finds.some none) })
 
 pub returns-clause-reason : goal.returns-clause-reason
 returns-clause-reason g c = elim c.match-insert_free.branch [

@@ -1,3 +1,4 @@
+-- Made by tests/widths from crates/iddqd_sorted/proofs/widths/two_keys/Sorted+BiHashMap+T+S/get1/Answers.antt: change that file.
 use Rattle.iddqd_sorted.proofs.Finding.{IsOnly-permutation}
 use Rattle.iddqd_sorted.proofs.widths.three_keys.Sorted+TriHashMap+T+S.get1.Goals as goal
 

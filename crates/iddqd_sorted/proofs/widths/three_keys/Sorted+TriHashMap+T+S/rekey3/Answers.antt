@@ -1,3 +1,4 @@
+-- Made by tests/widths from crates/iddqd_sorted/proofs/widths/two_keys/Sorted+BiHashMap+T+S/rekey2/Answers.antt: change that file.
 use Rattle.std.proofs.Common.{not, filter}
 use Rattle.iddqd_tri.specs.Keys.{has3}
 use Rattle.iddqd_sorted.specs.Items.{items}

@@ -1,7 +1,7 @@
 use Rattle.std.proofs.Common.{◌≡◌, ◌∙◌, Some, sym, ap}
 use Rattle.iddqd_order.specs.Row.{line, position}
 use Rattle.iddqd_sorted.proofs.Changed.{others_changed, resettled_kept}
-use Rattle.iddqd_sorted.proofs.map.Sorted.resettle_changed.Goals as goal
+use Rattle.iddqd_sorted.proofs.map.settle.resettle_changed.Goals as goal
 
 pub resettle-requires-clause-others : goal.resettle-requires-clause-others
 resettle-requires-clause-others g c =

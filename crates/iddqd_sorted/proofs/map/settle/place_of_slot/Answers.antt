@@ -5,7 +5,7 @@ use Rattle.iddqd_sorted.proofs.Listed.{Contains-listed}
 use Rattle.iddqd_sorted.proofs.Searching.{item_searchable, item_found, item_gap, same_slots}
 use Rattle.iddqd_sorted.proofs.Settling.{slot_at}
 use Rattle.iddqd_sorted.proofs.Sorting.{total, no_gap, found_there}
-use Rattle.iddqd_sorted.proofs.map.Sorted.place_of_slot.Goals as goal
+use Rattle.iddqd_sorted.proofs.map.settle.place_of_slot.Goals as goal
 
 pub search-requires-clause-ordered : goal.search-requires-clause-ordered
 search-requires-clause-ordered g c =

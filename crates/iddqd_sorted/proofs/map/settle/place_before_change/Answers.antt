@@ -2,7 +2,7 @@ use Rattle.std.proofs.Common.{◌≡◌, ◌∙◌, Some, sym, ap}
 use Rattle.iddqd_order.specs.Row.{line, position}
 use Rattle.iddqd_order.proofs.PlaceLemmas.{position-below}
 use Rattle.iddqd_sorted.proofs.Changed.{live_changed, changed_searchable, changed_gap, changed_slot}
-use Rattle.iddqd_sorted.proofs.map.Sorted.place_before_change.Goals as goal
+use Rattle.iddqd_sorted.proofs.map.settle.place_before_change.Goals as goal
 
 pub search-requires-clause-asks : goal.search-requires-clause-asks
 search-requires-clause-asks g c =

@@ -6,7 +6,7 @@ use Rattle.iddqd_order.proofs.PlaceLemmas.{position-below}
 use Rattle.iddqd_sorted.proofs.Staying.{set-moved}
 use Rattle.iddqd_sorted.proofs.Settling.{live_seen, settled, other_searchable, other_gap}
 use Rattle.iddqd_sorted.proofs.Sorting.{total}
-use Rattle.iddqd_sorted.proofs.map.Sorted.resettle.Goals as goal
+use Rattle.iddqd_sorted.proofs.map.settle.resettle.Goals as goal
 
 pub stays_in-requires-clause-asks : goal.stays_in-requires-clause-asks
 stays_in-requires-clause-asks g c =

@@ -9,7 +9,7 @@ use Rattle.iddqd_sorted.proofs.Finding.{none-permutation, passes_somewhere}
 use Rattle.iddqd_sorted.proofs.Listed.{IsPermutation-listed}
 use Rattle.iddqd_sorted.proofs.Settling.{live_seen, settled, other_searchable, other_found, other_gap}
 use Rattle.iddqd_sorted.proofs.Sorting.{total, same_key}
-use Rattle.iddqd_sorted.proofs.map.Sorted.settle.Goals as goal
+use Rattle.iddqd_sorted.proofs.map.settle.settle.Goals as goal
 
 pub search_last_first-requires-clause-asks : goal.search_last_first-requires-clause-asks
 search_last_first-requires-clause-asks g c =

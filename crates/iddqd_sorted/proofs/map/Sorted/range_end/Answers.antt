@@ -4,7 +4,7 @@ use Rattle.iddqd_sorted.specs.Items.{SortedValue, items}
 use Rattle.iddqd_sorted.proofs.Listed.{long}
 use Rattle.iddqd_order.proofs.StartLemmas.{IsStartOf-end}
 use Rattle.iddqd_sorted.proofs.Sorting.{total}
-use Rattle.iddqd_sorted.proofs.map.Sorted.first_past.Goals as goal
+use Rattle.iddqd_sorted.proofs.map.Sorted.range_end.Goals as goal
 
 pub returns-in-Unbounded-clause-starts : goal.returns-in-Unbounded-clause-starts
 returns-in-Unbounded-clause-starts g c =
