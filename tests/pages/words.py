@@ -246,6 +246,21 @@ def wrong_labels(found):
         yield f"{' or '.join(PAGES)} says what the label {it} means, and no clause has it"
 
 
+def wrong_shared(found):
+    """Yields the words that several crates define and of which docs/words.md does not say whether they mean the same, and those of which it says so without
+    need. What maps of other widths define means the same."""
+    crates_of = collections.defaultdict(set)
+    for it in (it for of in found.words.values() for it in of if it.meaning and crate_of(it) not in OTHER_WIDTHS):
+        crates_of[it.name].add(crate_of(it))
+    shared = {it for it, of in crates_of.items() if len(of) > 1}
+    section = re.search(r"^## Words of several crates\n(.*?)^## ", read(PAGES[1]), re.M | re.S)[1]
+    alike, _, apart = section.partition("\n|")
+    alike, apart = re.findall(r"`([^`]+)`", alike), re.findall(r"^\| `([^`]+)` \|", "\n|" + apart, re.M)
+    for it in sorted({*alike, *apart} ^ shared):
+        yield f"{PAGES[1]}, Words of several crates: {it} " + ("is defined in several crates, and is not listed" if it in shared else "is listed, and is not defined in several crates")
+    yield from (f"{PAGES[1]}, Words of several crates: {it} is listed twice" for it in sorted({*alike, *apart}) if (alike + apart).count(it) > 1)
+
+
 def faults(found):
     """Yields what is wrong with the comments of words, with the rows of words and labels, and with what docs/PROVED.md names."""
     for it in (it for of in found.words.values() for it in of):
@@ -260,6 +275,7 @@ def faults(found):
     yield from without_row(found)
     yield from wrong_members()
     yield from wrong_labels(found)
+    yield from wrong_shared(found)
     name = r"(?:requires|ensures)\*? (\w+) \{|\bfn (\w+)|ghost (\w+)\b|\bpub (?!fn )(?:record |data )?(\w+) |^ *abbrev pub (\w+)"
     there = {word for path in files() + files("*", SPECS) for it in re.findall(name, read(path), re.M) for word in it}
     named = (it for inside in re.findall(r"\(([^()]*`[^()]*)\)", read("docs/PROVED.md")) for it in re.findall(r"`(\w+)`", inside))
