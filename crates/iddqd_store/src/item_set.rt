@@ -356,16 +356,16 @@ impl<T> ItemSet<T> {
         mem::replace(self.item_mut(slot), item)
     }
 
-    /// Drops all items, and keeps the capacity.
+    /// Drops all items, and keeps the capacity. No item counts any more when the first one is dropped.
     pub fn clear(&mut self)
     where
         T: Drop,
         ensures slots { self.new.slots ≡ [] }
         ensures capacity { self.new.capacity ≡ self.old.capacity }
     {
-        self.slots.clear();
         self.live = 0;
         self.next_free = 0;
         self.lowest = 0;
+        self.slots.clear();
     }
 }

@@ -80,8 +80,8 @@ impl<T: Ranked, S: BuildHasher> IdHashMap<T, S> {
         if self.is_sparse() {
             self.remove_each();
         }
-        self.items.clear();
         self.first.clear();
+        self.items.clear();
     }
 
     /// Returns whether there are items, but so few in comparison with the cells of a table that removing them one by

@@ -68,8 +68,8 @@ where
         ensures capacity { self.new.capacity ≡ self.old.capacity }
         ensures builder { self.new.builder ≡ self.old.builder }
     {
-        self.map.clear();
         self.order.clear();
+        self.map.clear();
     }
 
     /// Reserves capacity for this many more items, with tables for at most `ahead` items more. What the order has beyond the most

@@ -80,10 +80,10 @@ impl<T: Ranked, S: BuildHasher> TriHashMap<T, S> {
         if self.is_sparse() {
             self.remove_each();
         }
-        self.items.clear();
         self.first.clear();
         self.second.clear();
         self.third.clear();
+        self.items.clear();
     }
 
     /// Returns whether there are items, but so few in comparison with the cells of a table that removing them one by

@@ -3,4 +3,4 @@ use Rattle.iddqd_store.proofs.RankLemmas.Invariant.{IsIndexed-empty}
 use Rattle.iddqd_id.proofs.map.IdHashMap.clear.Goals as goal
 
 pub invariant_of-self : goal.invariant_of-self
-invariant_of-self g c = rw (c.clear.ensures.slots, c.clear-2.ensures.pairs) (IsIndexed-empty _ _)
+invariant_of-self g c = rw (c.clear.ensures.pairs, c.clear-2.ensures.slots) (IsIndexed-empty _ _)

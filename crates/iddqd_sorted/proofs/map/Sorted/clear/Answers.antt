@@ -4,4 +4,4 @@ use Rattle.iddqd_sorted.proofs.map.Sorted.clear.Goals as goal
 
 pub invariant_of-self : goal.invariant_of-self
 invariant_of-self g c =
-    rw c.clear-2.ensures.none (IsListed-none (by_sort g.M.Item.Sortable.sort_key g.M.Item.SortKey.Ord.cmp g.M.SlotMap.first_key g.M.FirstKey.Ord.cmp) g.M.Item.Sortable.sort_key (g.M.SlotMap.shown c.clear.new.self).slots c.clear.ensures.empty)
+    rw c.clear.ensures.none (IsListed-none (by_sort g.M.Item.Sortable.sort_key g.M.Item.SortKey.Ord.cmp g.M.SlotMap.first_key g.M.FirstKey.Ord.cmp) g.M.Item.Sortable.sort_key (g.M.SlotMap.shown c.clear-2.new.self).slots c.clear-2.ensures.empty)
