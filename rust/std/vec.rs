@@ -26,6 +26,11 @@ pub trait Growing<T>: Sized {
     /// `append`, which may fail.
     fn try_append(&mut self, other: &mut Self) -> Result<(), AllocError>;
 
+    /// `resize`, which may fail.
+    fn try_resize(&mut self, count: usize, item: T) -> Result<(), AllocError>
+    where
+        T: Clone;
+
     /// `reserve`, which may fail.
     fn reserve_some(&mut self, more: usize) -> Result<(), AllocError>;
 
@@ -93,6 +98,16 @@ impl<T> Growing<T> for Vec<T> {
     fn try_append(&mut self, other: &mut Self) -> Result<(), AllocError> {
         self.reserve_some(other.len())?;
         self.append(other);
+        Ok(())
+    }
+
+    #[inline]
+    fn try_resize(&mut self, count: usize, item: T) -> Result<(), AllocError>
+    where
+        T: Clone,
+    {
+        self.reserve_some(count.saturating_sub(self.len()))?;
+        self.resize(count, item);
         Ok(())
     }
 

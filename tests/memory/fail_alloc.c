@@ -7,7 +7,7 @@
 // its Nth allocation is to fail, or none if N is 0. Of the requests for MADE + N bytes that follow, only the one in which N
 // is the number of allocations of the call succeeds. So the program learns that number.
 //
-// For test_memory_ord a request for NOTES bytes notes how many blocks and bytes are held, and a request for SAME bytes succeeds only if as
+// For test_memory a request for NOTES bytes notes how many blocks and bytes are held, and a request for SAME bytes succeeds only if as
 // many are held again. If the variable TELLS_PEAK is there, the library reports at the end how much memory was resident at most.
 //
 // It names what it takes from the C library itself, so that the toolchain's clang builds it without that library's headers.

@@ -15,5 +15,5 @@ returns-clause-all g c =
     let stable = stable_by of cmp o list sorted (c.sort_by.ensures.stable (λ x y. is_lt (cmp (of.key x) (of.key y))) (ranks_by o of.key) (answers_always _ _ _ (λ f a r f' called. search rules))) in
     let put = ExtendsTo-stable of cmp o list sorted stable (length_permutation list sorted c.sort_by.ensures.permutation) c.in-Ok.ensures.all in
     let all = ExtendsTo-grown of cmp put c.has_room_for_all.ensures.items (rw c.deref.ensures.value at c.has_room_for_all.ensures.grows_unless)
-        (rw c.deref.ensures.value at c.has_room_for_all.ensures.most) in
+    (rw c.deref.ensures.value at c.has_room_for_all.ensures.most) in
     ExtendsTo-lowered of cmp all c.give_back.new.self c.give_back.ensures.items c.give_back.ensures.fits (rw c.capacity-room.ensures.value at c.give_back.ensures.least) c.give_back.ensures.no_more
