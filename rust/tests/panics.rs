@@ -14,12 +14,10 @@ use std::time::Duration;
 /// The calls after whose panic a map may answer otherwise, of which maps, and why. In a map with a sort key each item is found by each of its
 /// keys all the same. A call that is made whole leaves this list: `each_step_in_turn` fails if none of its panics breaks a map any more.
 const MAY_BREAK: &[(Order, &[&str], &str)] = &[
-    (Order::None, &["extend_unique"], "what was inserted leaves before the keys of what is left are hashed, if it is more than is left"),
     (Order::Key, &["clear"], "where a drop panics: the blocks of entries are emptied one by one, and the entries counted after all"),
     (Order::Sort, &["insert_overwrite", "extend", "try_extend"], "the new item is in the map before its place in the order is sought"),
     (Order::Sort, &["rekey", "rekey1", "rekey2", "rekey3", "replace"], "the new item is in the map before its place in the order is sought"),
     (Order::Sort, &["update", "update1", "update2", "update3"], "the new data is in the map before its place in the order is sought"),
-    (Order::Sort, &["shrink_to", "shrink_to_fit"], "the items are listed in their order anew, one by one"),
 ];
 /// How often a caller's code panicked in a call, and how often the map then answered otherwise than a plain list of its items.
 type Told = BTreeMap<&'static str, (u64, u64)>;
