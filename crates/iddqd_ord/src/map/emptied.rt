@@ -1,5 +1,5 @@
 //! What `mem::try_take` leaves in place of a map.
-ghost use Rattle.std.specs.Prelude.{◌≡◌, [], IsOk};
+ghost use Rattle.std.specs.Prelude.{◌≡◌, [], IfOk, IsOk};
 ghost use Rattle.iddqd_ord.specs.Items.{items};
 
 use super::IdOrdMap;
@@ -13,6 +13,7 @@ impl<T: IdOrdItem> Emptied for IdOrdMap<T> {
     ghost is_emptied = { λ m. (items m ≡ []) × (m.capacity ≡ 0) };
 
     fn emptied(like: &Self) -> Result<Self, AllocError>
+        ensures empty { IfOk result (λ m. (items m ≡ []) × (m.capacity ≡ 0)) }
         ensures granted { IsOk result }
     {
         Ok(IdOrdMap::new(like.items.allocator()))
