@@ -142,21 +142,8 @@ const OF_ORDER: &[&str] = &[
     "matching",
     "next_data_back",
 ];
-const OF_SORTED: &[&str] = &[
-    "first",
-    "last",
-    "pop_first",
-    "pop_last",
-    "pop_to",
-    "pop_before",
-    "drop_before",
-    "group",
-    "range",
-    "replace",
-    "inside",
-    "hasher",
-    "for &",
-];
+const OF_SORTED: &[&str] =
+    &["first", "last", "pop_first", "pop_last", "pop_to", "pop_before", "drop_before", "group", "range", "replace", "inside", "hasher", "for &"];
 
 macro_rules! kinds {
     ($([$($s:ident)?] $map:ty, [$($of:expr),*], [$($weight:literal $family:path),*], [$($calls:ident),*];)*) => {
