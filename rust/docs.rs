@@ -7,7 +7,7 @@ const HIDDEN: &[(&str, &str, &str)] = &[
     (
         "",
         "pub trait",
-        "ClonesHashes ClonesKeys FoundByHash Hashed HashedKey Holds KeepsKey KeepsOrder KeyMatcher KeyOf KeyOrder Lookup Matcher Ranked",
+        "ClonesHashes ClonesKeys FoundByHash Hashed HashedKey Holds KeepsKey KeepsOrder KeyMatcher KeyOf KeyOrder Lookup Matcher Ranked SortOrder",
     ),
     ("", "pub mod", "ranks"),
     ("", "pub fn", "find_with find1_with find2_with find3_with pass"),
